@@ -1,0 +1,3 @@
+pub mod Dominance
+pub mod Solution
+pub mod Stored

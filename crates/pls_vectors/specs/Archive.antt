@@ -1,0 +1,32 @@
+use Rattle.std.specs.Prelude.{Bool, not, ◌&&◌, List, [], ◌∷◌, ◌++◌, if◌then◌else◌}
+use Rattle.std.specs.List.{list_any}
+
+-- The nondominated archive of a sequence of submissions. Points are of any type, and are seen through
+-- a test of weak dominance between their values.
+module _ {P : Type 0} (covers : P → P → Bool) where
+  -- some of the points weakly dominates x
+  abbrev pub covered_by : List P → P → Bool
+  covered_by points x = list_any (λ p. covers p x) points
+
+  -- a weakly dominates b and has another value
+  abbrev pub dominates : P → P → Bool
+  dominates a b = covers a b && not (covers b a)
+
+  -- a and b have one value
+  abbrev pub same_value : P → P → Bool
+  same_value a b = covers a b && covers b a
+
+  -- p belongs to the archive: no submission dominates it, and no earlier one has its value
+  abbrev pub belongs : List P → List P → P → Bool
+  belongs all earlier p =
+      not (list_any (λ q. dominates q p) all) && not (list_any (λ q. same_value q p) earlier)
+
+  -- those of the later submissions that belong to the archive of all, in their order
+  abbrev pub members_among : List P → List P → List P → List P
+  members_among all earlier [] = []
+  members_among all earlier (p ∷ later) =
+      (if belongs all earlier p then p ∷ [] else []) ++ members_among all (earlier ++ p ∷ []) later
+
+  -- the nondominated archive of all submissions: of equal values the first one stays
+  abbrev pub nondominated_archive : List P → List P
+  nondominated_archive all = members_among all [] all

@@ -1,0 +1,4 @@
+pub mod Dominance
+pub mod Archive
+pub mod Solution
+pub mod Vector

@@ -1,0 +1,12 @@
+//! Vectors of objective values, and solutions.
+//!
+//! Values are maximised in every part. A [`Vector`] is seen by contracts as the list of its parts, a
+//! [`Sol`] as its length and its 32 words. Dominance and the nondominated archive of a sequence of
+//! submissions are defined in `specs/`. No call takes memory.
+#![tactic(auto)]
+
+mod sol;
+mod vector;
+
+pub use sol::Sol;
+pub use vector::Vector;

@@ -1,0 +1,194 @@
+ghost use Rattle.std.specs.Prelude.{◌≡◌, ◌≢◌, ◌<◌, ◌↔◌, ◌≤◌, IsTrue, IsSome, IfSome, length, slice_get, Some};
+ghost use Rattle.std.specs.List.{list_all};
+ghost use Rattle.std.specs.Ordering.{int_cmp};
+ghost use Rattle.std.specs.Cmp.Lexicographic.{slice_cmp};
+ghost use Rattle.pls_vectors.specs.Archive.{dominates};
+ghost use Rattle.pls_vectors.specs.Dominance.{weakly_dominates, is_part, IsValue};
+ghost use Rattle.pls_vectors.specs.Vector.{places_of};
+
+use std::cmp::Ordering;
+use std::marker::Model;
+
+/// The greatest number of parts.
+const MOST_PARTS: usize = 4;
+
+/// The greatest size of a part.
+const PART_BOUND: i64 = 1 << 40;
+
+/// Two to four objective values, each between `-2^40` and `2^40`. Larger is better in every part.
+#[derive(Clone, Copy, Debug, PartialEq, Eq)]
+pub struct Vector {
+    len: u8,
+    parts: [i64; MOST_PARTS],
+}
+
+impl Model for Vector {
+    ghost use Rattle.std.specs.Prelude.{List, ℕ, ℤ, length, take};
+    ghost use Rattle.std.proofs.Common.{ap, ◌∙◌};
+    ghost use Rattle.pls_vectors.specs.Vector.{IsStored, places_of, length-stored, places_of-stored};
+
+    ghost Value = { List ℤ };
+
+    ghost view = { λ v. take v.len v.parts };
+
+    ghost invariant = { λ v. IsStored v.len v.parts };
+
+    ghost inverse = { λ parts. record { len = length parts; parts = places_of parts } };
+
+    ghost inverse_ok = { λ v stored.
+        ap (λ (n : ℕ). record { len = n; parts = places_of (take v.len v.parts) }) (length-stored v.len v.parts stored)
+        ∙ ap (λ (places : List ℤ). record v { parts = places }) (places_of-stored v.len v.parts stored) };
+}
+
+impl Vector {
+    /// The vector of these parts, or None where there are not two to four or one is out of range.
+    pub fn new(parts: &[i64]) -> Option<Vector>
+        ensures valid { IsSome result ↔ IsValue parts.now }
+        ensures value { IfSome result (λ v. v ≡ parts.now) }
+    {
+        if !are_parts(parts) {
+            return None;
+        }
+        Some(Vector {
+            len: parts.len() as u8,
+            parts: places_of(parts),
+        })
+    }
+
+    /// How many parts the vector has, 2 to 4.
+    pub fn len(&self) -> usize
+        ensures value { result ≡ length self.now }
+        ensures some { 2 ≤ result }
+        ensures few { result ≤ 4 }
+    {
+        self.len as usize
+    }
+
+    /// The part at place `k`.
+    pub fn part(&self, k: usize) -> i64
+        requires { k < length self.now }
+        ensures value { slice_get self.now k ≡ Some result }
+        ensures in_range { IsTrue (is_part result) }
+    {
+        let places = &self.parts;
+        places[k]
+    }
+
+    /// Whether every part is at least the other's: weak dominance.
+    pub fn covers(&self, other: &Vector) -> bool
+        requires { length self.now ≡ length other.now }
+        ensures { result ≡ weakly_dominates self.now other.now }
+    {
+        at_least(&self.parts, &other.parts)
+    }
+
+    /// Whether the vector covers the other and is not equal to it.
+    pub fn dominates(&self, other: &Vector) -> bool
+        requires { length self.now ≡ length other.now }
+        ensures value { result ≡ dominates weakly_dominates self.now other.now }
+        ensures strict { IsTrue result ↔ (IsTrue (weakly_dominates self.now other.now) × (self.now ≢ other.now)) }
+    {
+        self.covers(other) && !other.covers(self)
+    }
+
+    /// The lexicographic order of the parts.
+    pub fn lex(&self, other: &Vector) -> Ordering
+        requires { length self.now ≡ length other.now }
+        ensures { result ≡ slice_cmp int_cmp self.now other.now }
+    {
+        self.parts.cmp(&other.parts)
+    }
+}
+
+/// Whether each number of the first array is at least the second's.
+fn at_least(a: &[i64; MOST_PARTS], b: &[i64; MOST_PARTS]) -> bool
+    ensures { result ≡ weakly_dominates a.now b.now }
+{
+    let mut all = true;
+    for k in 0..MOST_PARTS {
+        all &= a[k] >= b[k];
+    }
+    all
+}
+
+/// Whether these are two to four parts, each in range.
+fn are_parts(parts: &[i64]) -> bool
+    ensures { IsTrue result ↔ IsValue parts.now }
+{
+    2 <= parts.len() && parts.len() <= MOST_PARTS && are_in_range(parts)
+}
+
+fn are_in_range(parts: &[i64]) -> bool
+    ensures { result ≡ list_all is_part parts.now }
+{
+    parts.iter().all(|x| -PART_BOUND <= *x && *x <= PART_BOUND)
+}
+
+/// The parts, and 0 at each place past them.
+fn places_of(parts: &[i64]) -> [i64; MOST_PARTS]
+    requires { length parts.now ≤ 4 }
+    ensures { result ≡ places_of parts.now }
+{
+    let mut places = [0; MOST_PARTS];
+    places[..parts.len()].copy_from_slice(parts);
+    places
+}
+
+#[cfg(test)]
+mod tests {
+    use super::*;
+    use std::process::Abort;
+
+    fn vector(rt: &impl Abort, parts: [i64; 3]) -> Vector
+        ensures { length result ≡ 3 }
+    {
+        Vector::new(&parts).expect(rt, "three parts in range")
+    }
+
+    #[test]
+    fn takes_two_to_four_parts_in_range(rt: HostRuntime) {
+        let cases: [(&[i64], bool); 10] = [
+            (&[], false),
+            (&[1], false),
+            (&[1, 2], true),
+            (&[1, 2, 3, 4], true),
+            (&[1, 2, 3, 4, 5], false),
+            (&[0, 1_099_511_627_776], true),
+            (&[0, 1_099_511_627_777], false),
+            (&[-1_099_511_627_776, 0], true),
+            (&[-1_099_511_627_777, 0], false),
+            (&[0, 0, 0, i64::MIN], false),
+        ];
+        for (parts, valid) in cases {
+            assert_eq!(rt; Vector::new(parts).is_some(), valid, "at {parts:?}");
+        }
+    }
+
+    #[test]
+    fn keeps_the_parts(rt: HostRuntime) {
+        let v = Vector::new(&[7, -8, 9]).expect(&rt, "three parts in range");
+        assert_eq!(rt; v.len(), 3);
+        assert_eq!(rt; [v.part(0), v.part(1), v.part(2)], [7, -8, 9]);
+    }
+
+    #[test]
+    fn compares_part_by_part(rt: HostRuntime) {
+        // a, b, whether a covers b, whether a dominates b, and their lexicographic order
+        let cases = [
+            ([1, 2, 3], [1, 2, 3], true, false, Ordering::Equal),
+            ([1, 2, 4], [1, 2, 3], true, true, Ordering::Greater),
+            ([1, 2, 3], [1, 2, 4], false, false, Ordering::Less),
+            ([2, 2, 3], [1, 2, 3], true, true, Ordering::Greater),
+            ([5, 0, 0], [4, 9, 9], false, false, Ordering::Greater),
+            ([-2, 9, 9], [-1, 0, 0], false, false, Ordering::Less),
+            ([-1, -1, -1], [-2, -3, -4], true, true, Ordering::Greater),
+        ];
+        for (a, b, covers, dominates, order) in cases {
+            let v = vector(&rt, a);
+            let w = vector(&rt, b);
+            assert_eq!(rt; v.covers(&w), covers, "{a:?} covers {b:?}");
+            assert_eq!(rt; v.dominates(&w), dominates, "{a:?} dominates {b:?}");
+            assert_eq!(rt; v.lex(&w), order, "{a:?} by {b:?}");
+        }
+    }
+}
