@@ -1,4 +1,4 @@
-use Rattle.std.specs.Prelude.{◌≡◌, ℕ, ◌+◌, ◌-◌, ◌^◌, ◌<◌, ◌≤◌, min, List, [], ◌++◌, length, take, drop, Option, Some}
+use Rattle.std.specs.Prelude.{◌≡◌, ℕ, ◌+◌, ◌-◌, ◌^◌, ◌<◌, ◌≤◌, min, List, [], ◌++◌, length, take, drop, Option, None, Some}
 
 -- one more, where a count stands still at the last value of a u64
 abbrev pub counted : ℕ → ℕ
@@ -25,3 +25,7 @@ pub record Reads (n : ℕ) (left : Option (List ℕ)) (buf : List ℕ) (left' : 
 pub record Writes (n : ℕ) (written : Option (List ℕ)) (piece : List ℕ) (written' : Option (List ℕ)) : Type 0 where
   pub within : n ≤ length piece
   pub told : (before : List ℕ) → written ≡ Some before → written' ≡ Some (before ++ take n piece)
+
+-- what is left or written, where a stream does not tell
+abbrev pub untold : Option (List ℕ)
+untold = None
