@@ -1,0 +1,4 @@
+pub mod Streams
+pub mod Refusals
+pub mod Memory
+pub mod Words
