@@ -1,7 +1,7 @@
 use Rattle.std.proofs.Common.{◌≡◌, ◌≢◌, ◌↔◌, ℤ, Bool, true, false, ◌&&◌, IsTrue, int_le, List, [], ◌∷◌, ◌++◌, length, refl, ap, arith, ◌∙◌, sym, subst}
 use Rattle.std.proofs.lemmas.Int.{ints}
 use Rattle.std.proofs.lemmas.Bool.{and_parts, and_from, both_ways, not-true, not_from_false, false_from_ne_true}
-use Rattle.pls_vectors.specs.Archive.{dominates}
+use Rattle.pls_vectors.specs.Archive.{IsPreorder, dominates}
 use Rattle.pls_vectors.specs.Dominance.{weakly_dominates}
 
 int_le-refl : (x : ℤ) → int_le x x ≡ true
@@ -40,6 +40,9 @@ weakly_dominates-antisym (x ∷ xs) (y ∷ ys) p q =
     let first = int_le-antisym x y back.0 there.0 in
     let rest = weakly_dominates-antisym xs ys there.1 back.1 in
     cc
+
+pub weakly_dominates-IsPreorder : IsPreorder weakly_dominates
+weakly_dominates-IsPreorder = record { reflexive = weakly_dominates-refl; transitive = weakly_dominates-trans }
 
 -- an equal end decides nothing
 pub weakly_dominates-append :

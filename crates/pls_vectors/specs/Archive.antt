@@ -1,5 +1,10 @@
-use Rattle.std.specs.Prelude.{Bool, not, ◌&&◌, List, [], ◌∷◌, ◌++◌, if◌then◌else◌}
+use Rattle.std.specs.Prelude.{◌≡◌, Bool, true, false, not, ◌&&◌, List, [], ◌∷◌, ◌++◌, filter, if◌then◌else◌}
 use Rattle.std.specs.List.{list_any}
+
+-- a test of weak dominance: each point passes it with itself, and whom b covers, who covers b covers too
+pub record IsPreorder {P : Type 0} (covers : P → P → Bool) : Type 0 where
+  pub reflexive : (a : P) → covers a a ≡ true
+  pub transitive : (a b c : P) → covers a b ≡ true → covers b c ≡ true → covers a c ≡ true
 
 -- The nondominated archive of a sequence of submissions. Points are of any type, and are seen through
 -- a test of weak dominance between their values.
@@ -30,3 +35,13 @@ module _ {P : Type 0} (covers : P → P → Bool) where
   -- the nondominated archive of all submissions: of equal values the first one stays
   abbrev pub nondominated_archive : List P → List P
   nondominated_archive all = members_among all [] all
+
+  -- the members after one more submission: the same where one of them covers it, and else those that it
+  -- does not dominate, in their order, and then itself
+  abbrev pub with_submission : List P → P → List P
+  with_submission members p =
+      if covered_by members p then members else filter (λ q. not (dominates p q)) members ++ p ∷ []
+
+  -- neither of two points covers the other
+  abbrev pub AreIncomparable : P → P → Type 0
+  AreIncomparable a b = (covers a b ≡ false) × (covers b a ≡ false)

@@ -1,4 +1,5 @@
 pub mod Dominance
 pub mod Archive
+pub mod ArchiveLaws
 pub mod Solution
 pub mod Vector

@@ -5,8 +5,10 @@
 //! submissions are defined in `specs/`. No call takes memory.
 #![tactic(auto)]
 
+mod laws;
 mod sol;
 mod vector;
 
+pub use laws::{archive_laws, dominance_laws};
 pub use sol::Sol;
 pub use vector::Vector;

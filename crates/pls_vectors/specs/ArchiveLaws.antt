@@ -1,0 +1,32 @@
+use Rattle.std.specs.Prelude.{◌≡◌, Bool, true, List, [], ◌∷◌, ◌++◌, AllPairs}
+use Rattle.std.specs.List.{list_all}
+use Rattle.pls_vectors.specs.Archive.{covered_by, nondominated_archive, with_submission, AreIncomparable}
+
+-- what holds of the nondominated archive of every sequence of submissions
+module _ {P : Type 0} (covers : P → P → Bool) where
+  abbrev archive : List P → List P
+  archive = nondominated_archive covers
+
+  -- it covers what the submissions cover
+  abbrev pub CoversTheSame : Type 0
+  CoversTheSame = (all : List P) (x : P) → covered_by covers (archive all) x ≡ covered_by covers all x
+
+  -- one more submission
+  abbrev pub GrowsBySubmission : Type 0
+  GrowsBySubmission = (all : List P) (p : P) → archive (all ++ p ∷ []) ≡ with_submission covers (archive all) p
+
+  -- its own archive is itself
+  abbrev pub IsIdempotent : Type 0
+  IsIdempotent = (all : List P) → archive (archive all) ≡ archive all
+
+  -- it stands for the submissions that it came from, whatever is submitted later
+  abbrev pub StandsForSubmissions : Type 0
+  StandsForSubmissions = (all later : List P) → archive (all ++ later) ≡ archive (archive all ++ later)
+
+  -- no member covers another
+  abbrev pub IsIncomparable : Type 0
+  IsIncomparable = (all : List P) → AllPairs (AreIncomparable covers) (archive all)
+
+  -- the members are submissions: a test that all submissions pass is passed by all members
+  abbrev pub HasSubmissionsOnly : Type 0
+  HasSubmissionsOnly = (all : List P) (test : P → Bool) → list_all test all ≡ true → list_all test (archive all) ≡ true
