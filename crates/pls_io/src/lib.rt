@@ -20,3 +20,6 @@ pub use std_source::StdSource;
 pub use streams::{Failed, Sink, Source};
 pub use words::{Tokens, Word};
 pub use write::{WriteRefusal, write_all};
+
+#[cfg(test)]
+mod tests;

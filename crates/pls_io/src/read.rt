@@ -1,5 +1,5 @@
 // All that a source has left.
-ghost use Rattle.std.specs.Prelude.{◌≡◌, ◌<◌, ◌≤◌, [], length, IfOk, IsErrOf};
+ghost use Rattle.std.specs.Prelude.{◌≡◌, ◌<◌, ◌≤◌, [], length, vec_len, IfOk, IsErrOf};
 ghost use Rattle.pls_io.specs.Streams.{Rose};
 ghost use Rattle.pls_io.specs.Refusals.{TakesSome, TakesAll, IsTooLong};
 ghost use Rattle.pls_io.specs.declared.read.ReadRefusal.TheVariants.{Memory};
@@ -44,8 +44,15 @@ pub fn read_all<S: Source>(
 
     ensures rest { TakesSome (S.left source.old) (S.left source.new) }
 {
-    let mut piece = vec![in alloc; 0u8; PIECE]?;
+    let mut piece = new_piece(alloc)?;
     read_pieces(source, &mut piece, limit, Vec::new(alloc))
+}
+
+// A place for a piece.
+fn new_piece(alloc: Global) -> Result<Vec<u8>, AllocError>
+    ensures { IfOk result (λ piece. vec_len piece ≡ PIECE) }
+{
+    vec![in alloc; 0u8; PIECE]
 }
 
 // What `read_all` does once it has a place for a piece and one for all.
