@@ -1,0 +1,13 @@
+//! Points, the calls of an archive with their replies, and its sequential histories.
+//!
+//! `specs/` defines what an archive of nondominated points replies, which histories are legal, and
+//! the sequential run of Pareto local search as the list of its calls with their replies.
+#![tactic(auto)]
+
+mod call;
+mod point;
+mod point_list;
+
+pub use call::{Call, Entry, Reply, Taken};
+pub use point::Point;
+pub use point_list::PointList;
