@@ -1,0 +1,6 @@
+pub mod Ranges
+pub mod Sums
+pub mod Tallies
+pub mod Vectors
+pub mod Points
+pub mod Greedy

@@ -1,0 +1,254 @@
+use Rattle.std.proofs.Common.{◌≡◌, ℕ, ◌+◌, ◌-◌, ◌*◌, ◌/◌, ◌%◌, ◌^◌, ◌<◌, ◌≤◌, ◌==◌, ℤ, pos, Bool, true, false, ◌&&◌, if◌then◌else◌, nat_le, nat_lt, List, length, slice_index, All, Some, None, map, ap, sym, ◌∙◌, subst, inl, inr, arith, get_or-set_same, get_or-set_other, length-set, add-one, add-zero}
+use Rattle.std.specs.List.{range_with_len, list_all}
+use Rattle.std.proofs.Math.Pow.{pow-lt}
+use Rattle.std.proofs.Math.Nat.{pow-le-pow_right}
+use Rattle.std.proofs.lemmas.Bool.{cases_eq, cases_lt, and_parts, and_from, eqb-true, eq-eqb, ltb-true, lt-ltb, leb-true, le-leb}
+use Rattle.std.proofs.lemmas.List.{get_or_past}
+use Rattle.std.proofs.lemmas.List.Elements.{All-get_or}
+use Rattle.std.proofs.lemmas.Nat.{or_lt, and_le_l}
+use Rattle.pls_vectors.specs.Solution.{Solution, chosen, with_bit, with_item}
+use Rattle.pls_vectors.proofs.Solution.{chosen-with_item_same, chosen-with_item_other}
+use Rattle.pls_knapsack.specs.declared.knapsack.tally.Tally.{Tally}
+use Rattle.pls_knapsack.specs.Instance.{Instance, IsWithinLimits, profit, weight, sum_of_chosen, load, value, fits, no_other_bit, feasible}
+use Rattle.pls_knapsack.specs.Walk.{IsTally, point_if_feasible}
+use Rattle.pls_knapsack.proofs.Ranges.{list_all-range, list_all-range_at, list_all-range_same, sum_by-range_suc, sum_by-range_le, map-range_same}
+use Rattle.pls_knapsack.proofs.Sums.{sum_of-put}
+
+-- a word with a bit changed has no bit beyond m either
+with_bit-below : (word i m : ℕ) (on : Bool) → word < 2 ^ m → i < m → with_bit word i on < 2 ^ m
+with_bit-below word i m true small below = or_lt m word (2 ^ i) small (pow-lt below)
+with_bit-below word i m false small below = omega (arith, and_le_l word (2 ^ 64 - 1 - 2 ^ i))
+
+-- a change of an item leaves no other bit
+no_other_bit-with_item :
+    (places n : ℕ) (s : Solution) (i : ℕ) (on : Bool) → i / 64 < length s.words → i < n
+    → list_all (λ j. nat_lt (slice_index s.words j) (2 ^ (n - 64 * j))) (range_with_len 0 places) ≡ true
+    → list_all (λ j. nat_lt (slice_index (with_item s i on).words j) (2 ^ (n - 64 * j))) (range_with_len 0 places) ≡ true
+no_other_bit-with_item places n s i on within below clean =
+    list_all-range _ places (λ j at.
+    let was : slice_index s.words j < 2 ^ (n - 64 * j) = ltb-true _ _ (list_all-range_at (λ j. nat_lt (slice_index s.words j) (2 ^ (n - 64 * j))) places j clean at) in
+    elim (cases_eq j (i / 64)) [
+      | inl same ↦
+          let small : slice_index s.words (i / 64) < 2 ^ (n - 64 * (i / 64)) = subst (λ (m : ℕ). slice_index s.words m < 2 ^ (n - 64 * m)) same was in
+          let now = with_bit-below (slice_index s.words (i / 64)) (i % 64) (n - 64 * (i / 64)) on small (omega arith) in
+          lt-ltb _ _ (rw (same, get_or-set_same) now)
+      | inr other ↦ lt-ltb _ _ (rw get_or-set_other was)
+    ])
+
+-- the sum over the chosen items when one is put in, or taken out
+pub sum_of_chosen-put :
+    (n : ℕ) (s : Solution) (i : ℕ) (amount : ℕ → ℕ) → i < n → i / 64 < length s.words → chosen s i ≡ false
+    → sum_of_chosen n (with_item s i true) amount ≡ sum_of_chosen n s amount + amount i
+sum_of_chosen-put n s i amount below within free =
+    sum_of-put (λ j. chosen s j) (λ j. chosen (with_item s i true) j) amount n i below free
+    (chosen-with_item_same s i true within)
+    (λ j other. chosen-with_item_other s i j true within other)
+
+pub sum_of_chosen-take :
+    (n : ℕ) (s : Solution) (i : ℕ) (amount : ℕ → ℕ) → i < n → i / 64 < length s.words → chosen s i ≡ true
+    → sum_of_chosen n (with_item s i false) amount + amount i ≡ sum_of_chosen n s amount
+sum_of_chosen-take n s i amount below within taken =
+    sym (sum_of-put (λ j. chosen (with_item s i false) j) (λ j. chosen s j) amount n i below
+    (chosen-with_item_same s i false within) taken
+    (λ j other. sym (chosen-with_item_other s i j false within other)))
+
+-- a number of a list of small ones
+pub small_at : (xs : List ℕ) (m i : ℕ) → All (λ x. x ≤ m) xs → slice_index xs i ≤ m
+small_at xs m i small =
+    elim (cases_lt i (length xs)) [
+      | inl within ↦ All-get_or (λ x. x ≤ m) xs i 0 within small
+      | inr past ↦ rw get_or_past (omega arith)
+    ]
+
+-- the sum over the chosen items of amounts that are small
+pub sum_of_chosen-le :
+    (n m : ℕ) (s : Solution) (amount : ℕ → ℕ) → ((i : ℕ) → amount i ≤ m) → sum_of_chosen n s amount ≤ n * m
+sum_of_chosen-le n m s amount small =
+    sum_by-range_le _ n m (λ i below.
+    let here : amount i ≤ m = small i in
+    elim (chosen s i) as (λ b. (if b then amount i else 0) ≤ m) [ true ↦ here | false ↦ omega arith ])
+
+-- one more item
+pub sum_of_chosen-yes :
+    (n : ℕ) (s : Solution) (amount : ℕ → ℕ) → chosen s n ≡ true
+    → sum_of_chosen (n + 1) s amount ≡ sum_of_chosen n s amount + amount n
+sum_of_chosen-yes n s amount in_it =
+    let last : (if chosen s n then amount n else 0) ≡ amount n = ap (λ b. if b then amount n else 0) in_it in
+    rw add-one (sum_by-range_suc _ n ∙ ap (λ x. sum_of_chosen n s amount + x) last)
+
+pub sum_of_chosen-no :
+    (n : ℕ) (s : Solution) (amount : ℕ → ℕ) → chosen s n ≡ false
+    → sum_of_chosen (n + 1) s amount ≡ sum_of_chosen n s amount
+sum_of_chosen-no n s amount out_of_it =
+    let last : (if chosen s n then amount n else 0) ≡ 0 = ap (λ b. if b then amount n else 0) out_of_it in
+    rw add-one (sum_by-range_suc _ n ∙ (ap (λ x. sum_of_chosen n s amount + x) last ∙ add-zero _))
+
+-- the parts of feasibility
+pub record IsFeasible (k : Instance) (s : Solution) : Type 0 where
+  pub long : s.len ≡ k.items
+  pub clean : no_other_bit k.items s ≡ true
+  pub within : fits k s ≡ true
+
+pub feasible-parts : (k : Instance) (s : Solution) → feasible k s ≡ true → IsFeasible k s
+unfolding feasible
+feasible-parts k s holds =
+    let parts = and_parts ((s.len == k.items) && no_other_bit k.items s) (fits k s) holds in
+    let shape = and_parts (s.len == k.items) (no_other_bit k.items s) parts.0 in
+    record { long = eqb-true s.len k.items shape.0; clean = shape.1; within = parts.1 }
+
+pub feasible-fits :
+    (k : Instance) (s : Solution) → s.len ≡ k.items → no_other_bit k.items s ≡ true → feasible k s ≡ fits k s
+unfolding feasible
+feasible-fits k s long clean =
+    ap (λ b. b && fits k s) (and_from (s.len == k.items) (no_other_bit k.items s) (eq-eqb s.len k.items long) clean)
+
+pub feasible-unclean : (k : Instance) (s : Solution) → ((s.len == k.items) && no_other_bit k.items s) ≡ false → feasible k s ≡ false
+unfolding feasible
+feasible-unclean k s unclean = ap (λ b. b && fits k s) unclean
+
+pub add_right_cancel : (a b c : ℕ) → a + c ≡ b + c → a ≡ b
+add_right_cancel a b c e = omega arith
+
+-- with_item keeps the length of the words, so a place within stays within
+pub within : (s : Solution) (i n : ℕ) → length s.words ≡ 32 → i < n → n ≤ 256 → i / 64 < length s.words
+within s i n stored below few = omega arith
+
+module _ (k : Instance) (t : Tally) (limits : IsWithinLimits k) (tally : IsTally k t) (i : ℕ) (below : i < k.items) where
+  item_within : i / 64 < length t.sol.words
+  item_within = within t.sol i k.items tally.stored below limits.few_items
+
+  -- the sums of a tally are small, so that one more amount fits a word
+  pub values_fit : (row : ℕ) → row < k.objectives → slice_index t.values row + profit k row i < 4294967296
+  values_fit row at =
+      let amount : profit k row i ≤ 1000000 = small_at k.profits 1000000 _ limits.small_profits in
+      let sum = sum_of_chosen-le k.items 1000000 t.sol (profit k row) (λ j. small_at k.profits 1000000 _ limits.small_profits) in
+      let few : k.items * 1000000 ≤ 256000000 = let f = limits.few_items in omega arith in
+      let is = tally.values row at in
+      omega arith
+
+  pub loads_fit : (row : ℕ) → row < k.rules → slice_index t.loads row + weight k row i < 4294967296
+  loads_fit row at =
+      let amount : weight k row i ≤ 1000000 = small_at k.weights 1000000 _ limits.small_weights in
+      let sum = sum_of_chosen-le k.items 1000000 t.sol (weight k row) (λ j. small_at k.weights 1000000 _ limits.small_weights) in
+      let few : k.items * 1000000 ≤ 256000000 = let f = limits.few_items in omega arith in
+      let is = tally.loads row at in
+      omega arith
+
+  -- the sums when item i is put in
+  pub value-put :
+      chosen t.sol i ≡ false → (row : ℕ) → row < k.objectives
+      → sum_of_chosen k.items (with_item t.sol i true) (profit k row) ≡ slice_index t.values row + profit k row i
+  value-put free row at =
+      sum_of_chosen-put k.items t.sol i (profit k row) below item_within free ∙ ap (λ x. x + profit k row i) (sym (tally.values row at))
+
+  pub load-put :
+      chosen t.sol i ≡ false → (row : ℕ) → row < k.rules
+      → load k (with_item t.sol i true) row ≡ slice_index t.loads row + weight k row i
+  load-put free row at =
+      sum_of_chosen-put k.items t.sol i (weight k row) below item_within free ∙ ap (λ x. x + weight k row i) (sym (tally.loads row at))
+
+  -- the sums when item i is taken out
+  pub value-take :
+      chosen t.sol i ≡ true → (row : ℕ) → row < k.objectives
+      → sum_of_chosen k.items (with_item t.sol i false) (profit k row) + profit k row i ≡ slice_index t.values row
+  value-take taken row at = sum_of_chosen-take k.items t.sol i (profit k row) below item_within taken ∙ sym (tally.values row at)
+
+  pub load-take :
+      chosen t.sol i ≡ true → (row : ℕ) → row < k.rules
+      → load k (with_item t.sol i false) row + weight k row i ≡ slice_index t.loads row
+  load-take taken row at = sum_of_chosen-take k.items t.sol i (weight k row) below item_within taken ∙ sym (tally.loads row at)
+
+  -- a choice with an item changed is feasible where it fits
+  feasible-with_item : (on : Bool) → feasible k (with_item t.sol i on) ≡ fits k (with_item t.sol i on)
+  unfolding no_other_bit
+  feasible-with_item on =
+      let was = feasible-parts k t.sol tally.feasible in
+      feasible-fits k (with_item t.sol i on) was.long (no_other_bit-with_item 32 k.items t.sol i on item_within below was.clean)
+
+  pub feasible-put :
+      chosen t.sol i ≡ false
+      → feasible k (with_item t.sol i true)
+      ≡ list_all (λ row. nat_le (slice_index t.loads row + weight k row i) (slice_index k.capacities row)) (range_with_len 0 k.rules)
+  unfolding fits
+  feasible-put free =
+      feasible-with_item true
+      ∙ list_all-range_same _ _ k.rules (λ row at. ap (λ x. nat_le x (slice_index k.capacities row)) (load-put free row at))
+
+  pub feasible-take : chosen t.sol i ≡ true → feasible k (with_item t.sol i false) ≡ true
+  unfolding fits
+  feasible-take taken =
+      let was = feasible-parts k t.sol tally.feasible in
+      feasible-with_item false
+      ∙ list_all-range _ k.rules (λ row at.
+      let before : load k t.sol row ≤ slice_index k.capacities row =
+      leb-true _ _ (list_all-range_at (λ row. nat_le (load k t.sol row) (slice_index k.capacities row)) k.rules row was.within at) in
+      let is = tally.loads row at in
+      let less = load-take taken row at in
+      le-leb _ _ (omega arith))
+
+  -- the tally after item i is put in, or taken out
+  pub IsTally-put :
+      (now : Tally) → chosen t.sol i ≡ false → feasible k (with_item t.sol i true) ≡ true → now.sol ≡ with_item t.sol i true
+      → ((row : ℕ) → row < k.objectives → slice_index now.values row ≡ slice_index t.values row + profit k row i)
+      → ((row : ℕ) → row < k.rules → slice_index now.loads row ≡ slice_index t.loads row + weight k row i)
+      → IsTally k now
+  IsTally-put now free holds sol values loads =
+      record {
+        stored = ap (λ (s : Solution). length s.words) sol ∙ (length-set _ _ _ ∙ tally.stored);
+        feasible = ap (λ s. feasible k s) sol ∙ holds;
+        values = λ row at. values row at ∙ (sym (value-put free row at) ∙ ap (λ s. sum_of_chosen k.items s (profit k row)) (sym sol));
+        loads = λ row at. loads row at ∙ (sym (load-put free row at) ∙ ap (λ s. load k s row) (sym sol));
+      }
+
+  pub IsTally-take :
+      (now : Tally) → chosen t.sol i ≡ true → now.sol ≡ with_item t.sol i false
+      → ((row : ℕ) → row < k.objectives → slice_index now.values row + profit k row i ≡ slice_index t.values row)
+      → ((row : ℕ) → row < k.rules → slice_index now.loads row + weight k row i ≡ slice_index t.loads row)
+      → IsTally k now
+  IsTally-take now taken sol values loads =
+      record {
+        stored = ap (λ (s : Solution). length s.words) sol ∙ (length-set _ _ _ ∙ tally.stored);
+        feasible = ap (λ s. feasible k s) sol ∙ feasible-take taken;
+        values = λ row at.
+            add_right_cancel _ _ (profit k row i) (values row at ∙ sym (value-take taken row at))
+            ∙ ap (λ s. sum_of_chosen k.items s (profit k row)) (sym sol);
+        loads = λ row at.
+            add_right_cancel _ _ (weight k row i) (loads row at ∙ sym (load-take taken row at)) ∙ ap (λ s. load k s row) (sym sol);
+      }
+
+-- the word test of a choice, where as many bits as a word has are free, or fewer
+pub word-full : (word bits : ℕ) → word < 2 ^ 64 → 64 ≤ bits → nat_le 64 bits ≡ nat_lt word (2 ^ bits)
+word-full word bits small full =
+    let more : 2 ^ 64 ≤ 2 ^ bits = pow-le-pow_right (omega arith) full in
+    le-leb 64 bits full ∙ sym (lt-ltb word (2 ^ bits) (omega arith))
+
+pub word-part : (word bits : ℕ) → bits < 64 → nat_lt word (1 * 2 ^ bits % 2 ^ 64) ≡ nat_lt word (2 ^ bits)
+word-part word bits part =
+    let less : 2 ^ bits < 2 ^ 64 = pow-lt part in
+    ap (λ m. nat_lt word m) (omega arith)
+
+-- the value of a choice whose sums are known
+pub value-from_sums :
+    (k : Instance) (s : Solution) (sums : List ℕ)
+    → ((row : ℕ) → row < k.objectives → slice_index sums row ≡ sum_of_chosen k.items s (profit k row))
+    → map (λ row. pos (slice_index sums row)) (range_with_len 0 k.objectives) ≡ value k s
+unfolding value
+value-from_sums k s sums is = map-range_same _ _ k.objectives (λ row at. ap (λ x. pos x) (is row at))
+
+-- a feasible choice as a point
+pub point_of-feasible : (k : Instance) (q : Solution) → feasible k q ≡ true → point_if_feasible k q ≡ Some (value k q, q)
+point_of-feasible k q holds = ap (λ b. if b then Some (value k q, q) else None) holds
+
+pub point_of-infeasible : (k : Instance) (q : Solution) → feasible k q ≡ false → point_if_feasible k q ≡ None
+point_of-infeasible k q fails = ap (λ b. if b then Some (value k q, q) else None) fails
+
+-- a point whose value was made from known sums
+pub point-from_sums :
+    (k : Instance) (q made : Solution) (v : List ℤ) (sums : List ℕ) → made ≡ q → feasible k q ≡ true
+    → v ≡ map (λ row. pos (slice_index sums row)) (range_with_len 0 k.objectives)
+    → ((row : ℕ) → row < k.objectives → slice_index sums row ≡ sum_of_chosen k.items q (profit k row))
+    → Some (v, made) ≡ point_if_feasible k q
+point-from_sums k q made v sums same holds parts is =
+    let exact : v ≡ value k q = parts ∙ value-from_sums k q sums is in
+    let point : Some (v, made) ≡ Some (value k q, q) = cc in
+    point ∙ sym (point_of-feasible k q holds)

@@ -1,0 +1,4 @@
+pub mod Instance
+pub mod Neighbours
+pub mod Text
+pub mod Walk
