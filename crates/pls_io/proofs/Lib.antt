@@ -1,3 +1,4 @@
 pub mod Moves
 pub mod WordSteps
 pub mod WordExamples
+pub mod Runs

@@ -1,13 +1,9 @@
 -- What several reads or writes come to.
-use Rattle.std.proofs.Common.{◌≡◌, ℕ, ◌+◌, ◌-◌, ◌<◌, ◌≤◌, List, [], ◌++◌, length, take, drop, Option, Some, sym, ap, ◌∙◌, refl, arith, append_assoc, length-append, length-drop, length-take}
-use Rattle.std.proofs.lemmas.List.{append-nil, take_all, take_at, drop_all, drop-drop, length-take-le}
+use Rattle.std.proofs.Common.{◌≡◌, ℕ, ◌+◌, ◌<◌, ◌≤◌, List, ◌++◌, length, take, drop, Option, Some, sym, ap, ◌∙◌, arith, append_assoc, length-append, length-drop}
+use Rattle.std.proofs.lemmas.List.{take_all, take_at, drop-drop, length-take-le}
 use Rattle.std.proofs.Math.Seq.{take-add}
 use Rattle.pls_io.specs.Streams.{Takes, Reads, Writes}
 use Rattle.pls_io.specs.Refusals.{TakesSome, TakesAll, IsTooLong}
-
--- nothing was written yet
-pub Writes-none : (w : Option (List ℕ)) (piece : List ℕ) → Writes 0 w piece w
-Writes-none w piece = record { within = omega arith; told = λ before e. e ∙ ap Some (sym (append-nil before)) }
 
 -- a write of the rest of the piece goes on
 pub Writes-more : (m n : ℕ) (w w' w'' : Option (List ℕ)) (piece rest : List ℕ) → rest ≡ drop m piece → Writes m w piece w' → Writes n w' rest w'' → Writes (m + n) w piece w''
@@ -22,10 +18,6 @@ pub record HasRead (read : List ℕ) (left left' : Option (List ℕ)) : Type 0 w
   pub within : (bytes : List ℕ) → left ≡ Some bytes → length read ≤ length bytes
   pub front : (bytes : List ℕ) → left ≡ Some bytes → read ≡ take (length read) bytes
   pub rest : (bytes : List ℕ) → left ≡ Some bytes → left' ≡ Some (drop (length read) bytes)
-
--- nothing was read yet
-pub HasRead-none : (left : Option (List ℕ)) → HasRead [] left left
-HasRead-none left = record { within = λ bytes e. omega arith; front = λ bytes e. refl; rest = λ bytes e. e }
 
 -- the bytes that a read put into the buffer
 bytes_read : (n : ℕ) (bytes buf : List ℕ) (left' : Option (List ℕ)) (buf' : List ℕ) → Takes n bytes buf left' buf' → take n buf' ≡ take n bytes

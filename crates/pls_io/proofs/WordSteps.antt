@@ -1,9 +1,9 @@
 -- The words of a text, byte by byte.
-use Rattle.std.proofs.Common.{◌≡◌, ℕ, ◌+◌, ◌-◌, ◌<◌, ◌≤◌, Bool, true, false, not, cond, eqb, ◌&&◌, ◌||◌, List, [], ◌∷◌, ◌++◌, length, take, drop, get_or, sym, ap, subst, ◌∙◌, refl, arith, eq-eqb, ne_eqb, eqb-true, add-one, ⊎_elim, slice_range}
+use Rattle.std.proofs.Common.{◌≡◌, ℕ, ◌+◌, ◌-◌, ◌<◌, ◌≤◌, Bool, true, false, List, [], ◌∷◌, ◌++◌, length, drop, get_or, sym, ap, subst, ◌∙◌, refl, arith, eq-eqb, ne_eqb, eqb-true, ⊎_elim, slice_range}
 use Rattle.std.specs.Prelude.{if◌then◌else◌, ◌==◌}
 use Rattle.std.specs.List.{list_all}
 use Rattle.std.proofs.lemmas.Bool.{and_parts, and_left, and_from, or_from, or_parts, or_cases, or_right, not-true, not-false, not_from_false, cond-true, cond-false, both_ways, cases_lt}
-use Rattle.std.proofs.lemmas.List.{drop_more, drop_all, drop-drop, take-append-drop, append-nil}
+use Rattle.std.proofs.lemmas.List.{drop_more, drop_all, drop-drop, take-append-drop}
 use Rattle.std.proofs.lemmas.List.Edits.{length-between}
 use Rattle.pls_io.specs.Words.{PlacedWord, is_space, is_word_byte, is_in_comment, uncommented, joined, with_byte, words_from, words_at}
 
@@ -23,21 +23,16 @@ not_blank : (b : ℕ) → is_word_byte b ≡ true → (is_space b ≡ false) × 
 not_blank b h = or_parts (is_space b) (b == 35) (not-true _ h)
 
 -- a byte in a comment
-pub words-comment : (place b : ℕ) (bs : List ℕ) → (b == 10) ≡ false → words_from place (uncommented true (b ∷ bs)) ≡ words_from (place + 1) (uncommented true bs)
+words-comment : (place b : ℕ) (bs : List ℕ) → (b == 10) ≡ false → words_from place (uncommented true (b ∷ bs)) ≡ words_from (place + 1) (uncommented true bs)
 words-comment place b bs h = step place true b bs true (in_comment b h)
 
--- a line feed ends a comment
-pub words-line_feed : (place b : ℕ) (bs : List ℕ) → b ≡ 10 → words_from place (uncommented true (b ∷ bs)) ≡ words_from place (uncommented false (b ∷ bs))
-words-line_feed place b bs e =
-    subst (λ (x : ℕ). words_from place (uncommented true (x ∷ bs)) ≡ words_from place (uncommented false (x ∷ bs))) (sym e) refl
-
 -- a `#` begins one
-pub words-hash : (place b : ℕ) (bs : List ℕ) → b ≡ 35 → words_from place (uncommented false (b ∷ bs)) ≡ words_from place (uncommented true (b ∷ bs))
+words-hash : (place b : ℕ) (bs : List ℕ) → b ≡ 35 → words_from place (uncommented false (b ∷ bs)) ≡ words_from place (uncommented true (b ∷ bs))
 words-hash place b bs e =
     subst (λ (x : ℕ). words_from place (uncommented false (x ∷ bs)) ≡ words_from place (uncommented true (x ∷ bs))) (sym e) refl
 
 -- a space
-pub words-space : (place b : ℕ) (bs : List ℕ) → (b == 35) ≡ false → is_word_byte b ≡ false → words_from place (uncommented false (b ∷ bs)) ≡ words_from (place + 1) (uncommented false bs)
+words-space : (place b : ℕ) (bs : List ℕ) → (b == 35) ≡ false → is_word_byte b ≡ false → words_from place (uncommented false (b ∷ bs)) ≡ words_from (place + 1) (uncommented false bs)
 words-space place b bs hash h =
     let sp : is_space b ≡ true = ⊎_elim (λ e. e) (λ e. absurd (both_ways _ hash e)) (or_cases (is_space b) (b == 35) (not-false _ h)) in
     step place false b bs false (no_comment b hash) ∙ cond-true _ _ _ sp
@@ -97,7 +92,7 @@ words-run place (b ∷ (c ∷ run)) rest all some after =
     words-word_byte place b ((c ∷ run) ++ rest) both.0 ∙ ap (joined place b) later ∙ joined-more place b (c ∷ run) _ ∙ ap (λ (n : ℕ). record { place = place; text = b ∷ (c ∷ run) } ∷ words_from n (uncommented false rest)) (sym e)
 
 -- the same in a text: at a place past all words there is none
-pub words_at-end : (text : List ℕ) (at : ℕ) → length text ≤ at → words_at false text at ≡ []
+words_at-end : (text : List ℕ) (at : ℕ) → length text ≤ at → words_at false text at ≡ []
 words_at-end text at h = ap (λ bs. words_from at (uncommented false bs)) (drop_all at text h)
 
 next-after-at : (text : List ℕ) (end : ℕ) → (end < length text → is_word_byte (get_or text end 0) ≡ false) → BeginsAfter end (words_at false text end)

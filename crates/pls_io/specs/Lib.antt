@@ -2,3 +2,4 @@ pub mod Streams
 pub mod Refusals
 pub mod Memory
 pub mod Words
+pub mod WordRuns

@@ -1,4 +1,10 @@
-//! Bytes in and bytes out: sources and sinks, and the words of a text.
+//! Bytes in and bytes out.
+//!
+//! A `Source` gives bytes and a `Sink` takes them. Each counts its failed calls, so that a caller's
+//! contract can name the cause of a failure, and may tell what is left or what was written.
+//! `read_all` and `write_all` are proved over any of them. There are sources and sinks over memory,
+//! with planned failures, and over what a runtime reads and prints. `Tokens` walks the words of a
+//! text, with their places, in one pass and without memory.
 #![tactic(auto)]
 
 mod attempt;

@@ -9,7 +9,7 @@ use std::alloc::{AllocError, Global};
 use std::marker::Model;
 
 /// Keeps what is written, as far as there is room. Its calls are counted from 1, and those whose
-/// numbers are planned fail.
+/// numbers are planned fail. It never takes memory after it was made.
 #[derive(Drop)]
 pub struct MemSink {
     bytes: Vec<u8>,

@@ -7,7 +7,8 @@ use crate::plan::is_planned;
 use crate::streams::{Failed, Source};
 use std::marker::Model;
 
-/// Gives the bytes of a list. Its calls are counted from 1, and those whose numbers are planned fail.
+/// Gives the bytes of a list. Its calls are counted from 1, and those whose numbers are planned
+/// fail. The count stands still at the end of a u64, past every number that can be planned.
 #[derive(Drop)]
 pub struct MemSource {
     bytes: Vec<u8>,

@@ -46,10 +46,12 @@ impl<'a, R: Print> Sink for StdSink<'a, R> {
     fn write(&mut self, bytes: &[u8]) -> Result<usize, Failed>
         ensures count { self.old ≤ self.new }
         ensures cause { OnErr result (Rose self.old self.new) }
+
+        // The trait's, which say nothing of the bytes here.
         ensures kept { OnErr result (untold ≡ untold) }
         ensures writes { IfOk result (λ n. Writes n untold bytes.now untold) }
-        ensures progress { IfOk result (λ n. 0 < length bytes.now → 0 < n) }
 
+        ensures progress { IfOk result (λ n. 0 < length bytes.now → 0 < n) }
         ensures ok { OnOk result (self.new ≡ self.old) }
         ensures failed { OnErr result (self.new ≡ counted self.old) }
     {

@@ -1,7 +1,8 @@
 // The words of a text, from its front.
 ghost use Rattle.std.specs.Prelude.{◌≡◌, ◌^◌, ◌<◌, ◌≤◌, [], ◌∷◌, true, false, length, slice_index, slice_range, IfSome, IfNone};
 ghost use Rattle.std.specs.List.{list_all};
-ghost use Rattle.pls_io.specs.Words.{is_word_byte, words_at, words, placed};
+ghost use Rattle.pls_io.specs.Words.{is_word_byte, uncommented, words_at, words, placed};
+ghost use Rattle.pls_io.specs.WordRuns.{AreRuns};
 
 use std::marker::Model;
 
@@ -36,7 +37,8 @@ impl<'a> Tokens<'a> {
     /// The words of `text`, which is shorter than 2^32 bytes.
     pub fn new(text: &'a [u8]) -> Self
         requires { length text.now < 2 ^ 32 }
-        ensures { result ≡ words text.now }
+        ensures words { result ≡ words text.now }
+        ensures runs { AreRuns 0 (uncommented false text.now) result }
     {
         Tokens { text, at: 0 }
     }

@@ -1,4 +1,4 @@
-use Rattle.std.proofs.Common.{◌≡◌, ◌+◌, ◌<◌, ◌≤◌, length, take, drop, arith, length-take}
+use Rattle.std.proofs.Common.{arith, length-take}
 use Rattle.pls_io.proofs.Moves.{HasRead-more, TakesSome-from_HasRead, TakesAll-from_end, IsTooLong-from_more}
 use Rattle.pls_io.proofs.read.read_pieces.Goals as goal
 

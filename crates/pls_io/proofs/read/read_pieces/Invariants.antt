@@ -1,4 +1,4 @@
-use Rattle.std.proofs.Common.{◌≡◌, ◌-◌, ◌≤◌, vec_len}
+use Rattle.std.proofs.Common.{◌-◌, ◌≤◌, vec_len}
 use Rattle.pls_io.proofs.Moves.{HasRead}
 use Rattle.pls_io.proofs.read.read_pieces.Given as goal
 

@@ -1,4 +1,4 @@
-use Rattle.std.proofs.Common.{length, drop, ◌-◌, ◌≤◌, arith}
+use Rattle.std.proofs.Common.{arith}
 use Rattle.std.proofs.lemmas.List.{take_rest}
 use Rattle.pls_io.proofs.Moves.{Writes-more}
 use Rattle.pls_io.proofs.write.write_all.Goals as goal
