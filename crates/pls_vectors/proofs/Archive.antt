@@ -1,9 +1,9 @@
-use Rattle.std.proofs.Common.{◌≡◌, Bool, true, false, not, ◌&&◌, ◌||◌, inl, inr, if◌then◌else◌, List, [], ◌∷◌, ◌++◌, filter, All, refl, ap, sym, ◌∙◌, append_assoc}
-use Rattle.std.specs.List.{list_any}
+use Rattle.std.proofs.Common.{◌≡◌, Bool, true, false, not, ◌&&◌, ◌||◌, inl, inr, if◌then◌else◌, List, [], ◌∷◌, ◌++◌, filter, All, Contains, IsTrue, refl, ap, sym, ◌∙◌, append_assoc}
+use Rattle.std.specs.List.{list_any, list_all}
 use Rattle.std.proofs.Math.Bool.{and-true}
 use Rattle.std.proofs.lemmas.Bool.{cases_Bool, and_parts, and_from, or_left, both_ways, not-true, not_from_false, false_from_ne_true}
 use Rattle.std.proofs.lemmas.List.{append-nil}
-use Rattle.std.proofs.lemmas.List.Elements.{All-nil, All-head, All-tail, All-append, All-weaker, filter-append}
+use Rattle.std.proofs.lemmas.List.Elements.{All-nil, All-head, All-tail, All-append, All-weaker, All-contains_itself, filter-append}
 use Rattle.std.proofs.lemmas.List.Folds.{list_any-append}
 use Rattle.std.proofs.lemmas.List.Sums.{AllPass-from_list_all, list_all-from_AllPass}
 use Rattle.pls_vectors.specs.Archive.{IsPreorder, covered_by, dominates, same_value, belongs, members_among, nondominated_archive}
@@ -80,8 +80,11 @@ module _ {P : Type 0} (covers : P → P → Bool) where
   pub All-archive : (Q : P → Type 0) (all : List P) → All Q all → All Q (nondominated_archive covers all)
   All-archive Q all h = All-members Q Q all (λ earlier p belongs q. q) [] all h
 
-  pub list_all-archive : HasSubmissionsOnly covers
-  list_all-archive all test h =
+  pub archive-submitted : HasSubmissionsOnly covers
+  archive-submitted all = All-archive (Contains all) all (All-contains_itself all)
+
+  pub list_all-archive : (test : P → Bool) (all : List P) → IsTrue (list_all test all) → IsTrue (list_all test (nondominated_archive covers all))
+  list_all-archive test all h =
       list_all-from_AllPass test _ (All-archive (λ p. test p ≡ true) all (AllPass-from_list_all test all h))
 
   -- no submission dominates a member
@@ -103,10 +106,12 @@ module _ {P : Type 0} {covers : P → P → Bool} (order : IsPreorder covers) wh
   -- a submission that was covered dominates no member
   spared_by-covered :
       (all : List P) (p : P) → covered_by covers all p ≡ true → spared_by covers p (nondominated_archive covers all) ≡ nondominated_archive covers all
-  spared_by-covered all p covered =
-      let spared : (m : P) → list_any (λ r. dominates covers r m) all ≡ false → not (dominates covers p m) ≡ true =
-      λ m none. not_from_false _ (false_from_ne_true _ (λ d. both_ways _ none (list_any-weaker _ _ (λ r h. dominates-covered r p m h d) all covered))) in
-      filter-all _ _ (All-weaker _ _ spared _ (archive-undominated covers all))
+  spared_by-covered all p covered = filter-all _ _ (All-weaker _ _ spared _ (archive-undominated covers all))
+    where
+      spared : (m : P) → list_any (λ r. dominates covers r m) all ≡ false → not (dominates covers p m) ≡ true
+      spared m none =
+          let dominated = λ (d : IsTrue (dominates covers p m)). list_any-weaker _ _ (λ r h. dominates-covered r p m h d) all covered in
+          not_from_false _ (false_from_ne_true _ (λ d. both_ways _ none (dominated d)))
 
   -- the members after one more submission, by whether some submission covers it
   pub archive-by_cases :
