@@ -12,9 +12,9 @@ use Rattle.pls_vectors.proofs.Bool.{and_not_itself, not_or_and, not_and_not, or_
 use Rattle.pls_vectors.proofs.FromEnd.{from_end}
 use Rattle.pls_vectors.proofs.Lists.{filter-if, filter-all, All-if, list_any-weaker, list_any-split}
 
--- Of any test
+-- of any test
 module _ {P : Type 0} (covers : P → P → Bool) where
-  -- those that p leaves
+  -- the members that p does not dominate
   abbrev pub spared_by : P → List P → List P
   spared_by p members = filter (λ q. not (dominates covers p q)) members
 
@@ -58,6 +58,7 @@ module _ {P : Type 0} (covers : P → P → Bool) where
       ∙ (and-true (belongs covers all all p)
       ∙ (not_and_not _ _ ∙ ap not (list_any-split (λ q. covers q p) (λ q. covers p q) all))))
 
+  -- one more submission, of any test: those that it dominates leave, and it enters where none covers it
   archive-more :
       (all : List P) (p : P)
       → nondominated_archive covers (all ++ p ∷ [])
@@ -68,7 +69,7 @@ module _ {P : Type 0} (covers : P → P → Bool) where
       ∙ ap (λ ms. spared_by p (nondominated_archive covers all) ++ ms)
       (append-nil _ ∙ ap (λ b. if b then p ∷ [] else []) (belongs-itself all p)))
 
-  -- what belonging gives holds of each member, and so does what holds of each submission
+  -- what belonging and being submitted give holds of each member
   All-members :
       (Q R : P → Type 0) (all : List P) → ((earlier : List P) (p : P) → belongs covers all earlier p ≡ true → R p → Q p)
       → (earlier later : List P) → All R later → All Q (members_among covers all earlier later)
@@ -77,9 +78,11 @@ module _ {P : Type 0} (covers : P → P → Bool) where
       All-append Q _ _ (All-if Q (belongs covers all earlier p) p (λ yes. gives earlier p yes (All-head R p later h)))
       (All-members Q R all gives (earlier ++ p ∷ []) later (All-tail R p later h))
 
+  -- what holds of all submissions holds of all members
   pub All-archive : (Q : P → Type 0) (all : List P) → All Q all → All Q (nondominated_archive covers all)
   All-archive Q all h = All-members Q Q all (λ earlier p belongs q. q) [] all h
 
+  -- each member is a submission
   pub archive-submitted : HasSubmissionsOnly covers
   archive-submitted all = All-archive (Contains all) all (All-contains_itself all)
 
@@ -94,7 +97,7 @@ module _ {P : Type 0} (covers : P → P → Bool) where
       let Undominated : P → Type 0 = λ m. list_any (λ r. dominates covers r m) all ≡ false in
       All-members Undominated (λ p. Unit {0}) all (λ earlier p h any. not-true _ (and_parts _ _ h).0) [] all (λ k d within. tt)
 
--- Of a preorder
+-- of a preorder
 module _ {P : Type 0} {covers : P → P → Bool} (order : IsPreorder covers) where
   -- who covers a point dominates what it dominates
   pub dominates-covered : (a b c : P) → covers a b ≡ true → dominates covers b c ≡ true → dominates covers a c ≡ true
@@ -126,7 +129,7 @@ module _ {P : Type 0} {covers : P → P → Bool} (order : IsPreorder covers) wh
       archive-more covers all p
       ∙ ap (λ b. spared_by covers p (nondominated_archive covers all) ++ (if not b then p ∷ [] else [])) e
 
-  -- whom p does not spare, p covers for
+  -- what a point that p does not spare covers, p covers
   covered_by-spared :
       (p x : P) (b : Bool) → (covers p x ≡ true → b ≡ true)
       → (members : List P) → (covered_by covers (spared_by covers p members) x || b) ≡ (covered_by covers members x || b)

@@ -56,6 +56,7 @@ module _ {P : Type 0} {covers : P → P → Bool} (order : IsPreorder covers) wh
           ∙ ap (λ ms. ms ++ p ∷ [])
           (ap (spared_by covers p) (so_far (AllPairs-before (AreIncomparable covers) points p pairs)) ∙ filter-all _ points spared)
 
+  -- the archive is its own archive
   pub archive-archive : IsIdempotent covers
   archive-archive all = archive-of_incomparable _ (archive-incomparable all)
 
