@@ -1,7 +1,7 @@
 use Rattle.std.specs.Prelude.{Bool, not, ◌&&◌, List, [], ◌∷◌, ◌++◌, filter, if◌then◌else◌, IsTrue, IsFalse}
 use Rattle.std.specs.List.{list_any}
 
--- a test of weak dominance: each point passes it with itself, and whom b covers, who covers b covers too
+-- what a test of weak dominance keeps: each point covers itself, and also what the points that it covers cover
 pub record IsPreorder {P : Type 0} (covers : P → P → Bool) : Type 0 where
   pub reflexive : (a : P) → IsTrue (covers a a)
   pub transitive : (a b c : P) → IsTrue (covers a b) → IsTrue (covers b c) → IsTrue (covers a c)
