@@ -1,9 +1,9 @@
-use Rattle.std.proofs.Common.{◌≡◌, Bool, true, false, not, ◌&&◌, ◌||◌, inl, inr, if◌then◌else◌, List, [], ◌∷◌, ◌++◌, filter, All, refl, ap, sym, ◌∙◌, append_assoc}
-use Rattle.std.specs.List.{list_any}
+use Rattle.std.proofs.Common.{◌≡◌, Bool, true, false, not, ◌&&◌, ◌||◌, inl, inr, if◌then◌else◌, List, [], ◌∷◌, ◌++◌, filter, All, Contains, IsTrue, refl, ap, sym, ◌∙◌, append_assoc}
+use Rattle.std.specs.List.{list_any, list_all}
 use Rattle.std.proofs.Math.Bool.{and-true}
 use Rattle.std.proofs.lemmas.Bool.{cases_Bool, and_parts, and_from, or_left, both_ways, not-true, not_from_false, false_from_ne_true}
 use Rattle.std.proofs.lemmas.List.{append-nil}
-use Rattle.std.proofs.lemmas.List.Elements.{All-nil, All-head, All-tail, All-append, All-weaker, filter-append}
+use Rattle.std.proofs.lemmas.List.Elements.{All-nil, All-head, All-tail, All-append, All-weaker, All-contains_itself, filter-append}
 use Rattle.std.proofs.lemmas.List.Folds.{list_any-append}
 use Rattle.std.proofs.lemmas.List.Sums.{AllPass-from_list_all, list_all-from_AllPass}
 use Rattle.pls_vectors.specs.Archive.{IsPreorder, covered_by, dominates, same_value, belongs, members_among, nondominated_archive}
@@ -12,9 +12,9 @@ use Rattle.pls_vectors.proofs.Bool.{and_not_itself, not_or_and, not_and_not, or_
 use Rattle.pls_vectors.proofs.FromEnd.{from_end}
 use Rattle.pls_vectors.proofs.Lists.{filter-if, filter-all, All-if, list_any-weaker, list_any-split}
 
--- Of any test
+-- of any test
 module _ {P : Type 0} (covers : P → P → Bool) where
-  -- those that p leaves
+  -- the members that p does not dominate
   abbrev pub spared_by : P → List P → List P
   spared_by p members = filter (λ q. not (dominates covers p q)) members
 
@@ -58,6 +58,7 @@ module _ {P : Type 0} (covers : P → P → Bool) where
       ∙ (and-true (belongs covers all all p)
       ∙ (not_and_not _ _ ∙ ap not (list_any-split (λ q. covers q p) (λ q. covers p q) all))))
 
+  -- one more submission, of any test: those that it dominates leave, and it enters where none covers it
   archive-more :
       (all : List P) (p : P)
       → nondominated_archive covers (all ++ p ∷ [])
@@ -68,7 +69,7 @@ module _ {P : Type 0} (covers : P → P → Bool) where
       ∙ ap (λ ms. spared_by p (nondominated_archive covers all) ++ ms)
       (append-nil _ ∙ ap (λ b. if b then p ∷ [] else []) (belongs-itself all p)))
 
-  -- what belonging gives holds of each member, and so does what holds of each submission
+  -- what belonging and being submitted give holds of each member
   All-members :
       (Q R : P → Type 0) (all : List P) → ((earlier : List P) (p : P) → belongs covers all earlier p ≡ true → R p → Q p)
       → (earlier later : List P) → All R later → All Q (members_among covers all earlier later)
@@ -77,11 +78,16 @@ module _ {P : Type 0} (covers : P → P → Bool) where
       All-append Q _ _ (All-if Q (belongs covers all earlier p) p (λ yes. gives earlier p yes (All-head R p later h)))
       (All-members Q R all gives (earlier ++ p ∷ []) later (All-tail R p later h))
 
+  -- what holds of all submissions holds of all members
   pub All-archive : (Q : P → Type 0) (all : List P) → All Q all → All Q (nondominated_archive covers all)
   All-archive Q all h = All-members Q Q all (λ earlier p belongs q. q) [] all h
 
-  pub list_all-archive : HasSubmissionsOnly covers
-  list_all-archive all test h =
+  -- each member is a submission
+  pub archive-submitted : HasSubmissionsOnly covers
+  archive-submitted all = All-archive (Contains all) all (All-contains_itself all)
+
+  pub list_all-archive : (test : P → Bool) (all : List P) → IsTrue (list_all test all) → IsTrue (list_all test (nondominated_archive covers all))
+  list_all-archive test all h =
       list_all-from_AllPass test _ (All-archive (λ p. test p ≡ true) all (AllPass-from_list_all test all h))
 
   -- no submission dominates a member
@@ -91,7 +97,7 @@ module _ {P : Type 0} (covers : P → P → Bool) where
       let Undominated : P → Type 0 = λ m. list_any (λ r. dominates covers r m) all ≡ false in
       All-members Undominated (λ p. Unit {0}) all (λ earlier p h any. not-true _ (and_parts _ _ h).0) [] all (λ k d within. tt)
 
--- Of a preorder
+-- of a preorder
 module _ {P : Type 0} {covers : P → P → Bool} (order : IsPreorder covers) where
   -- who covers a point dominates what it dominates
   pub dominates-covered : (a b c : P) → covers a b ≡ true → dominates covers b c ≡ true → dominates covers a c ≡ true
@@ -103,10 +109,12 @@ module _ {P : Type 0} {covers : P → P → Bool} (order : IsPreorder covers) wh
   -- a submission that was covered dominates no member
   spared_by-covered :
       (all : List P) (p : P) → covered_by covers all p ≡ true → spared_by covers p (nondominated_archive covers all) ≡ nondominated_archive covers all
-  spared_by-covered all p covered =
-      let spared : (m : P) → list_any (λ r. dominates covers r m) all ≡ false → not (dominates covers p m) ≡ true =
-      λ m none. not_from_false _ (false_from_ne_true _ (λ d. both_ways _ none (list_any-weaker _ _ (λ r h. dominates-covered r p m h d) all covered))) in
-      filter-all _ _ (All-weaker _ _ spared _ (archive-undominated covers all))
+  spared_by-covered all p covered = filter-all _ _ (All-weaker _ _ spared _ (archive-undominated covers all))
+    where
+      spared : (m : P) → list_any (λ r. dominates covers r m) all ≡ false → not (dominates covers p m) ≡ true
+      spared m none =
+          let dominated = λ (d : IsTrue (dominates covers p m)). list_any-weaker _ _ (λ r h. dominates-covered r p m h d) all covered in
+          not_from_false _ (false_from_ne_true _ (λ d. both_ways _ none (dominated d)))
 
   -- the members after one more submission, by whether some submission covers it
   pub archive-by_cases :
@@ -121,7 +129,7 @@ module _ {P : Type 0} {covers : P → P → Bool} (order : IsPreorder covers) wh
       archive-more covers all p
       ∙ ap (λ b. spared_by covers p (nondominated_archive covers all) ++ (if not b then p ∷ [] else [])) e
 
-  -- whom p does not spare, p covers for
+  -- what a point that p does not spare covers, p covers
   covered_by-spared :
       (p x : P) (b : Bool) → (covers p x ≡ true → b ≡ true)
       → (members : List P) → (covered_by covers (spared_by covers p members) x || b) ≡ (covered_by covers members x || b)

@@ -6,7 +6,7 @@ use Rattle.std.proofs.lemmas.List.Folds.{list_any_none}
 use Rattle.std.proofs.lemmas.List.Kept.{AllPairs-filter}
 use Rattle.std.proofs.lemmas.List.Quantifiers.{all_pairs_push}
 use Rattle.pls_vectors.specs.Archive.{IsPreorder, covered_by, dominates, nondominated_archive, with_submission, AreIncomparable}
-use Rattle.pls_vectors.specs.ArchiveLaws.{IsIncomparable, IsIdempotent, StandsForSubmissions}
+use Rattle.pls_vectors.specs.ArchiveLaws.{HasIncomparableMembers, IsIdempotent, StandsForSubmissions}
 use Rattle.pls_vectors.proofs.Archive.{spared_by, archive-by_cases, covered_by-archive, archive-with_submission}
 use Rattle.pls_vectors.proofs.FromEnd.{from_end}
 use Rattle.pls_vectors.proofs.Lists.{filter-all, All-none, AllPairs-before, AllPairs-last}
@@ -18,7 +18,7 @@ module _ {P : Type 0} {covers : P → P → Bool} (order : IsPreorder covers) wh
       (below, false_from_ne_true _ (λ h. both_ways _ (not-true _ spared) (and_from _ _ h (not_from_false _ below))))
 
   -- no member covers another
-  pub archive-incomparable : IsIncomparable covers
+  pub archive-incomparable : HasIncomparableMembers covers
   archive-incomparable =
       from_end (λ all. AllPairs (AreIncomparable covers) (nondominated_archive covers all)) more (λ i j d before within. absurd (omega arith))
     where
@@ -56,6 +56,7 @@ module _ {P : Type 0} {covers : P → P → Bool} (order : IsPreorder covers) wh
           ∙ ap (λ ms. ms ++ p ∷ [])
           (ap (spared_by covers p) (so_far (AllPairs-before (AreIncomparable covers) points p pairs)) ∙ filter-all _ points spared)
 
+  -- the archive is its own archive
   pub archive-archive : IsIdempotent covers
   archive-archive all = archive-of_incomparable _ (archive-incomparable all)
 
@@ -68,10 +69,14 @@ module _ {P : Type 0} {covers : P → P → Bool} (order : IsPreorder covers) wh
       members : List P
       members = nondominated_archive covers all
 
+      pushed :
+          (before later : List P) (p : P)
+          → nondominated_archive covers (before ++ (later ++ p ∷ [])) ≡ with_submission covers (nondominated_archive covers (before ++ later)) p
+      pushed before later p =
+          ap (nondominated_archive covers) (sym (append_assoc before later (p ∷ []))) ∙ archive-with_submission order (before ++ later) p
+
       more :
           (later : List P) (p : P) → nondominated_archive covers (all ++ later) ≡ nondominated_archive covers (members ++ later)
           → nondominated_archive covers (all ++ (later ++ p ∷ [])) ≡ nondominated_archive covers (members ++ (later ++ p ∷ []))
       more later p so_far =
-          let pushed = λ (before : List P).
-          ap (nondominated_archive covers) (sym (append_assoc before later (p ∷ []))) ∙ archive-with_submission order (before ++ later) p in
-          pushed all ∙ (ap (λ ms. with_submission covers ms p) so_far ∙ sym (pushed members))
+          pushed all later p ∙ (ap (λ ms. with_submission covers ms p) so_far ∙ sym (pushed members later p))

@@ -1,6 +1,6 @@
 use Rattle.std.proofs.Common.{◌≡◌, Bool, true, false, not, ◌&&◌, ◌||◌, refl, sym}
 
--- what std has not of tests
+-- lemmas on tests that std lacks
 
 pub and_not_itself : (x : Bool) → (x && not x) ≡ false
 and_not_itself true = refl

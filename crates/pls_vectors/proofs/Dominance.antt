@@ -44,6 +44,14 @@ weakly_dominates-antisym (x ∷ xs) (y ∷ ys) p q =
 pub weakly_dominates-IsPreorder : IsPreorder weakly_dominates
 weakly_dominates-IsPreorder = record { reflexive = weakly_dominates-refl; transitive = weakly_dominates-trans }
 
+-- points that are compared by their values
+pub IsPreorder-by :
+    {P V : Type 0} {covers : V → V → Bool} (value : P → V) → IsPreorder covers → IsPreorder (λ p q. covers (value p) (value q))
+IsPreorder-by value order = record {
+  reflexive = λ p. order.reflexive (value p);
+  transitive = λ p q r. order.transitive (value p) (value q) (value r);
+}
+
 -- an equal end decides nothing
 pub weakly_dominates-append :
     (xs ys end : List ℤ) → length xs ≡ length ys → weakly_dominates (xs ++ end) (ys ++ end) ≡ weakly_dominates xs ys

@@ -1,10 +1,10 @@
-use Rattle.std.specs.Prelude.{◌≡◌, Bool, true, false, not, ◌&&◌, List, [], ◌∷◌, ◌++◌, filter, if◌then◌else◌}
+use Rattle.std.specs.Prelude.{Bool, not, ◌&&◌, List, [], ◌∷◌, ◌++◌, filter, if◌then◌else◌, IsTrue, IsFalse}
 use Rattle.std.specs.List.{list_any}
 
--- a test of weak dominance: each point passes it with itself, and whom b covers, who covers b covers too
+-- what a test of weak dominance keeps: each point covers itself, and also what the points that it covers cover
 pub record IsPreorder {P : Type 0} (covers : P → P → Bool) : Type 0 where
-  pub reflexive : (a : P) → covers a a ≡ true
-  pub transitive : (a b c : P) → covers a b ≡ true → covers b c ≡ true → covers a c ≡ true
+  pub reflexive : (a : P) → IsTrue (covers a a)
+  pub transitive : (a b c : P) → IsTrue (covers a b) → IsTrue (covers b c) → IsTrue (covers a c)
 
 -- The nondominated archive of a sequence of submissions. Points are of any type, and are seen through
 -- a test of weak dominance between their values.
@@ -44,4 +44,4 @@ module _ {P : Type 0} (covers : P → P → Bool) where
 
   -- neither of two points covers the other
   abbrev pub AreIncomparable : P → P → Type 0
-  AreIncomparable a b = (covers a b ≡ false) × (covers b a ≡ false)
+  AreIncomparable a b = IsFalse (covers a b) × IsFalse (covers b a)

@@ -1,5 +1,4 @@
-use Rattle.std.specs.Prelude.{◌≡◌, Bool, true, List, [], ◌∷◌, ◌++◌, AllPairs}
-use Rattle.std.specs.List.{list_all}
+use Rattle.std.specs.Prelude.{◌≡◌, Bool, List, [], ◌∷◌, ◌++◌, All, AllPairs, Contains}
 use Rattle.pls_vectors.specs.Archive.{covered_by, nondominated_archive, with_submission, AreIncomparable}
 
 -- what holds of the nondominated archive of every sequence of submissions
@@ -24,9 +23,9 @@ module _ {P : Type 0} (covers : P → P → Bool) where
   StandsForSubmissions = (all later : List P) → archive (all ++ later) ≡ archive (archive all ++ later)
 
   -- no member covers another
-  abbrev pub IsIncomparable : Type 0
-  IsIncomparable = (all : List P) → AllPairs (AreIncomparable covers) (archive all)
+  abbrev pub HasIncomparableMembers : Type 0
+  HasIncomparableMembers = (all : List P) → AllPairs (AreIncomparable covers) (archive all)
 
-  -- the members are submissions: a test that all submissions pass is passed by all members
+  -- each member is a submission
   abbrev pub HasSubmissionsOnly : Type 0
-  HasSubmissionsOnly = (all : List P) (test : P → Bool) → list_all test all ≡ true → list_all test (archive all) ≡ true
+  HasSubmissionsOnly = (all : List P) → All (Contains all) (archive all)

@@ -1,4 +1,4 @@
-use Rattle.std.specs.Prelude.{◌^◌, ◌≤◌, ◌≡◌, ℤ, pos, neg_ℤ, Bool, true, false, ◌&&◌, List, [], ◌∷◌, length, int_le}
+use Rattle.std.specs.Prelude.{◌^◌, ◌≤◌, ℤ, pos, neg_ℤ, Bool, true, false, ◌&&◌, List, [], ◌∷◌, length, int_le, IsTrue}
 use Rattle.std.specs.List.{list_all}
 
 -- A weakly dominates b, larger better: they have equally many parts, and each part of a is at least that of b.
@@ -16,4 +16,4 @@ is_part x = int_le (neg_ℤ (pos (2 ^ 40))) x && int_le x (pos (2 ^ 40))
 pub record IsValue (parts : List ℤ) : Type 0 where
   pub at_least_two : 2 ≤ length parts
   pub at_most_four : length parts ≤ 4
-  pub in_range : list_all is_part parts ≡ true
+  pub in_range : IsTrue (list_all is_part parts)

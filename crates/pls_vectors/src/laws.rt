@@ -1,6 +1,6 @@
 ghost use Rattle.std.specs.Prelude.{◌≡◌, ℤ, List, IsTrue};
 ghost use Rattle.pls_vectors.specs.Archive.{IsPreorder};
-ghost use Rattle.pls_vectors.specs.ArchiveLaws.{CoversTheSame, GrowsBySubmission, IsIdempotent, StandsForSubmissions, IsIncomparable, HasSubmissionsOnly};
+ghost use Rattle.pls_vectors.specs.ArchiveLaws.{CoversTheSame, GrowsBySubmission, IsIdempotent, StandsForSubmissions, HasIncomparableMembers, HasSubmissionsOnly};
 ghost use Rattle.pls_vectors.specs.Dominance.{weakly_dominates};
 
 /// Weak dominance is a partial order on the values. The contract holds the laws: a call does nothing.
@@ -15,6 +15,6 @@ pub fn archive_laws()
     ensures one_more { GrowsBySubmission weakly_dominates }
     ensures again { IsIdempotent weakly_dominates }
     ensures later { StandsForSubmissions weakly_dominates }
-    ensures incomparable { IsIncomparable weakly_dominates }
+    ensures incomparable { HasIncomparableMembers weakly_dominates }
     ensures submitted { HasSubmissionsOnly weakly_dominates }
 {}

@@ -64,7 +64,7 @@ impl Sol {
         (self.words[(i / 64) as usize] >> (i % 64)) & 1 == 1
     }
 
-    /// Puts item `i` into the choice, or leaves it out.
+    /// Puts item `i` into the choice where `on` is true, and else takes it out.
     pub fn set_bit(&mut self, i: u16, on: bool)
         requires { i < self.old.len }
         ensures value { self.new ≡ with_item self.old i on }

@@ -100,7 +100,8 @@ impl Vector {
     }
 }
 
-/// Whether each number of the first array is at least the second's.
+/// Whether each number of the first array is at least the second's. There is no branch: the places past
+/// the parts are 0 in both vectors, so they may be compared too.
 fn at_least(a: &[i64; MOST_PARTS], b: &[i64; MOST_PARTS]) -> bool
     ensures { result ≡ weakly_dominates a.now b.now }
 {

@@ -1,5 +1,5 @@
 use Rattle.pls_vectors.specs.Dominance.{weakly_dominates}
-use Rattle.pls_vectors.proofs.Archive.{covered_by-archive, archive-with_submission, list_all-archive}
+use Rattle.pls_vectors.proofs.Archive.{covered_by-archive, archive-with_submission, archive-submitted}
 use Rattle.pls_vectors.proofs.ArchiveOfMembers.{archive-incomparable, archive-archive, archive-append_archive}
 use Rattle.pls_vectors.proofs.Dominance.{weakly_dominates-IsPreorder}
 use Rattle.pls_vectors.proofs.laws.archive_laws.Goals as goal
@@ -20,4 +20,4 @@ pub returns-clause-incomparable : goal.returns-clause-incomparable
 returns-clause-incomparable c = archive-incomparable weakly_dominates-IsPreorder
 
 pub returns-clause-submitted : goal.returns-clause-submitted
-returns-clause-submitted c = list_all-archive weakly_dominates
+returns-clause-submitted c = archive-submitted weakly_dominates
