@@ -9,18 +9,18 @@ use std::io;
 use std::io::{BufRead, Error, ErrorKind, Input, Lines, Read};
 use std::test::Fail;
 
-const K1: &[u8] = b"pls1 knapsack 2 2 1\n10\n3 1\n1 3\n2 3\n";
+const TWO_ITEMS: &[u8] = b"pls1 knapsack 2 2 1\n10\n3 1\n1 3\n2 3\n";
 
 // The bytes, the calls that fail, the limit, and what is read.
 const READS: [(&[u8], &[u32], usize, Result<usize, ReadRefusal>); 8] = [
     (b"", &[], 0, Ok(0)),
     (b"a", &[], 0, Err(ReadRefusal::TooLong)),
-    (K1, &[], 35, Ok(35)),
-    (K1, &[], 34, Err(ReadRefusal::TooLong)),
-    (K1, &[], usize::MAX, Ok(35)),
-    (K1, &[1], 35, Err(ReadRefusal::ReadFault)),
-    (K1, &[2], 35, Err(ReadRefusal::ReadFault)),
-    (K1, &[3], 35, Ok(35)),
+    (TWO_ITEMS, &[], 35, Ok(35)),
+    (TWO_ITEMS, &[], 34, Err(ReadRefusal::TooLong)),
+    (TWO_ITEMS, &[], usize::MAX, Ok(35)),
+    (TWO_ITEMS, &[1], 35, Err(ReadRefusal::ReadFault)),
+    (TWO_ITEMS, &[2], 35, Err(ReadRefusal::ReadFault)),
+    (TWO_ITEMS, &[3], 35, Ok(35)),
 ];
 
 #[test]
@@ -66,15 +66,15 @@ const WRITES: [(usize, usize, &[u32], usize, bool); 7] = [
 fn writes_a_front(rt: HostRuntime) -> Result<(), Fail> {
     let alloc = rt.alloc();
     for (room, most, fails, written, is_all) in WRITES {
-        assert!(rt; most > 0 && written <= K1.len());
+        assert!(rt; most > 0 && written <= TWO_ITEMS.len());
         let mut sink = MemSink::new(alloc, room, most, fails.to_vec(alloc)?)?;
         let want = if is_all {
             Ok(())
         } else {
             Err(WriteRefusal::WriteFault(written))
         };
-        assert_eq!(rt; write_all(&mut sink, K1), want);
-        assert!(rt; sink.written() == &K1[..written]);
+        assert_eq!(rt; write_all(&mut sink, TWO_ITEMS), want);
+        assert!(rt; sink.written() == &TWO_ITEMS[..written]);
     }
     Ok(())
 }
