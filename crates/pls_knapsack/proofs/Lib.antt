@@ -4,3 +4,4 @@ pub mod Tallies
 pub mod Vectors
 pub mod Points
 pub mod Greedy
+mod WorkedRows

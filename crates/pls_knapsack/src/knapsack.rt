@@ -4,6 +4,8 @@ ghost use Rattle.pls_knapsack.specs.Instance.{instance_from, IsWithinLimits, pro
 mod choices;
 mod rows;
 mod tally;
+#[cfg(test)]
+mod tests;
 pub mod walk;
 
 use std::alloc::{AllocError, Global};
