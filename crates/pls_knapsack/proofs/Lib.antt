@@ -5,3 +5,4 @@ pub mod Vectors
 pub mod Points
 pub mod Greedy
 mod WorkedRows
+pub mod Counts

@@ -1,5 +1,5 @@
-use Rattle.std.proofs.Common.{◌≡◌, ℕ, ℤ, pos, true, List, [], ◌∷◌, replicate, refl}
-use Rattle.pls_vectors.specs.Solution.{Solution, no_items}
+use Rattle.std.proofs.Common.{◌≡◌, ℕ, pos, [], ◌∷◌, replicate, refl}
+use Rattle.pls_vectors.specs.Solution.{Solution}
 use Rattle.pls_knapsack.specs.Instance.{Instance, value, fits, no_other_bit, feasible, filled, greedy}
 use Rattle.pls_knapsack.specs.Neighbours.{points, neighbours}
 
