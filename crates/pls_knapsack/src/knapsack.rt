@@ -6,10 +6,11 @@ mod rows;
 mod tally;
 #[cfg(test)]
 mod tests;
-pub mod walk;
+mod walk;
 
 use std::alloc::{AllocError, Global};
 use std::marker::Model;
+pub use walk::Walk;
 
 /// A knapsack instance: each item has a profit in each profit row and a weight in each weight row.
 ///

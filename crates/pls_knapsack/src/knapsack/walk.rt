@@ -90,7 +90,7 @@ impl Knapsack {
         ensures { result ≡ point_if_feasible self.now (flipped tally.now.sol item) }
     {
         if tally.sol.bit(item) {
-            self.with_taken(tally, item)
+            Some(self.with_taken(tally, item))
         } else {
             self.with_put(tally, item)
         }
