@@ -25,8 +25,17 @@ done
 printf 'pls_vectors:\npls_knapsack: pls_vectors\nwalk_time: pls_vectors pls_knapsack\n' > "$work/crates.txt"
 
 (cd "$work" && "$rt" all check > "$work/check.log" 2>&1) || { tail -n 20 "$work/check.log"; exit 1; }
-(cd "$work/crates/walk_time" && "$rt" run) | grep neighbours
+(cd "$work/crates/walk_time" && "$rt" run 2>&1) | grep neighbours > "$work/times"
 if command -v rustc > /dev/null; then
     rustc -O --edition 2024 -o "$work/plain" "$here/walk/plain.rs"
-    "$work/plain"
+    "$work/plain" >> "$work/times"
 fi
+cat "$work/times"
+awk '
+    /by the walk/ { walk = $6 }
+    /plain sums/ { sums = $6 }
+    /plain Rust/ { rust = $6 }
+    END {
+        printf "plain sums to the walk: %.1f\n", sums / walk
+        if (rust) printf "the walk to plain Rust: %.1f\n", walk / rust
+    }' "$work/times"
