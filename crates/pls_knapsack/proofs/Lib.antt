@@ -4,3 +4,5 @@ pub mod Tallies
 pub mod Vectors
 pub mod Points
 pub mod Greedy
+mod WorkedRows
+pub mod Counts

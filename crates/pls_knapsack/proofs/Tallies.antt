@@ -239,9 +239,6 @@ value-from_sums k s sums is = map-range_same _ _ k.objectives (λ row at. ap (λ
 pub point_of-feasible : (k : Instance) (q : Solution) → feasible k q ≡ true → point_if_feasible k q ≡ Some (value k q, q)
 point_of-feasible k q holds = ap (λ b. if b then Some (value k q, q) else None) holds
 
-pub point_of-infeasible : (k : Instance) (q : Solution) → feasible k q ≡ false → point_if_feasible k q ≡ None
-point_of-infeasible k q fails = ap (λ b. if b then Some (value k q, q) else None) fails
-
 -- a point whose value was made from known sums
 pub point-from_sums :
     (k : Instance) (q made : Solution) (v : List ℤ) (sums : List ℕ) → made ≡ q → feasible k q ≡ true

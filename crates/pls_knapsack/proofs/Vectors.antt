@@ -1,10 +1,12 @@
-use Rattle.std.proofs.Common.{◌≡◌, ℕ, ◌^◌, ◌<◌, ◌≤◌, ℤ, pos, true, List, length, slice_index, get_or, map, take, ◌∙◌, arith}
+use Rattle.std.proofs.Common.{◌≡◌, ℕ, ◌^◌, ◌<◌, ◌≤◌, ℤ, pos, true, List, length, slice_index, get_or, map, take, Option, Some, None, IfSome, ap, ◌∙◌, arith}
 use Rattle.std.specs.List.{range_with_len}
 use Rattle.std.proofs.lemmas.Int.{ints}
 use Rattle.std.proofs.lemmas.List.{get_or-take, length-take-le}
 use Rattle.std.proofs.lemmas.List.FromFn.{fill_by_all, length-map-range_with_len}
 use Rattle.std.proofs.lemmas.List.Folds.{list_all-map}
 use Rattle.pls_vectors.specs.Dominance.{is_part, IsValue}
+use Rattle.pls_vectors.specs.Solution.{Solution}
+use Rattle.pls_knapsack.specs.Instance.{Instance, value}
 use Rattle.pls_knapsack.proofs.Ranges.{list_all-range}
 
 -- the parts that are written are those of the sums
@@ -34,3 +36,14 @@ IsValue-sums sums rows some few small =
           list_all-map is_part f (range_with_len 0 rows)
           ∙ list_all-range (λ row. is_part (f row)) rows (λ row _. is_part-pos (slice_index sums row) (small row));
     }
+
+-- a value has a part for each objective
+pub length-value : (k : Instance) (s : Solution) → length (value k s) ≡ k.objectives
+unfolding value
+length-value k s = length-map-range_with_len _ 0 k.objectives
+
+pub if_some-length :
+    (k : Instance) (given : Option (List ℤ × Solution)) → IfSome given (λ p. p.0 ≡ value k p.1)
+    → IfSome given (λ p. length p.0 ≡ k.objectives)
+if_some-length k None is = is
+if_some-length k (Some p) is = ap (λ parts. length parts) is ∙ length-value k p.1

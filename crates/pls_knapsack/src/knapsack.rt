@@ -4,10 +4,13 @@ ghost use Rattle.pls_knapsack.specs.Instance.{instance_from, IsWithinLimits, pro
 mod choices;
 mod rows;
 mod tally;
-pub mod walk;
+#[cfg(test)]
+mod tests;
+mod walk;
 
 use std::alloc::{AllocError, Global};
 use std::marker::Model;
+pub use walk::Walk;
 
 /// A knapsack instance: each item has a profit in each profit row and a weight in each weight row.
 ///

@@ -9,5 +9,4 @@
 
 mod knapsack;
 
-pub use knapsack::Knapsack;
-pub use knapsack::walk::Walk;
+pub use knapsack::{Knapsack, Walk};

@@ -1,4 +1,4 @@
-ghost use Rattle.std.specs.Prelude.{◌≡◌, ◌<◌, ◌≤◌, true};
+ghost use Rattle.std.specs.Prelude.{◌≡◌, ◌<◌, ◌≤◌, true, length};
 ghost use Rattle.pls_knapsack.specs.Instance.{feasible, fits, no_other_bit, value, greedy, IsOrderOf};
 
 use super::tally::Tally;
@@ -31,7 +31,8 @@ impl Knapsack {
     /// The value of a feasible choice: in each profit row the sum over the chosen items.
     pub fn value(&self, sol: &Sol) -> Vector
         requires { feasible self.now sol.now ≡ true }
-        ensures { result ≡ value self.now sol.now }
+        ensures value { result ≡ value self.now sol.now }
+        ensures parts { length result ≡ self.now.objectives }
     {
         let mut values = [0; 4];
         rows::sum_rows(&mut values, &self.profits, self.items, self.objectives, sol);

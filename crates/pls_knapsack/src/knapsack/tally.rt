@@ -127,11 +127,11 @@ impl Knapsack {
     }
 
     /// The choice with a chosen item left out, and its value.
-    pub(super) fn with_taken(&self, tally: &Tally, item: u16) -> Option<(Vector, Sol)>
+    pub(super) fn with_taken(&self, tally: &Tally, item: u16) -> (Vector, Sol)
         requires tally { IsTally self.now tally.now }
         requires item_in { item < self.now.items }
         requires taken { chosen tally.now.sol item ≡ true }
-        ensures { result ≡ point_if_feasible self.now (with_item tally.now.sol item false) }
+        ensures { Some result ≡ point_if_feasible self.now (with_item tally.now.sol item false) }
     {
         let mut values = tally.values;
         rows::take_item(
@@ -143,6 +143,6 @@ impl Knapsack {
         );
         let mut sol = tally.sol;
         sol.set_bit(item, false);
-        Some((rows::vector_of(&values, self.objectives), sol))
+        (rows::vector_of(&values, self.objectives), sol)
     }
 }

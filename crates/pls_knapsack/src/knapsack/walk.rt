@@ -1,4 +1,4 @@
-ghost use Rattle.std.specs.Prelude.{◌≡◌, ◌↔◌, ◌+◌, ◌<◌, ◌≤◌, ◌++◌, [], true, IsNone, IfSome, IfNone, option_to_list};
+ghost use Rattle.std.specs.Prelude.{◌≡◌, ◌↔◌, ◌+◌, ◌<◌, ◌≤◌, ◌++◌, [], true, IsNone, IfSome, IfNone, option_to_list, length};
 ghost use Rattle.pls_vectors.specs.Solution.{chosen};
 ghost use Rattle.pls_knapsack.specs.Instance.{feasible, value};
 ghost use Rattle.pls_knapsack.specs.Neighbours.{flipped, neighbours, points};
@@ -21,11 +21,12 @@ pub struct Walk {
 impl Knapsack {
     ghost use Rattle.pls_knapsack.specs.Walk.{IsTally, IsWalkOf, left, flips_left, exchanges_left, point_if_feasible};
 
-    /// The walk over the neighbours of a feasible choice, which has given none of them.
+    /// The walk over the neighbours of a feasible choice, at most 16,640, which has given none of them.
     pub fn walk(&self, sol: &Sol) -> Walk
         requires { feasible self.now sol.now ≡ true }
         ensures made { IsWalkOf self.now result }
         ensures left { left self.now result ≡ neighbours self.now sol.now }
+        ensures few { length (neighbours self.now sol.now) ≤ 16640 }
     {
         let start = self.tally(sol);
         let values = start.values;
@@ -52,6 +53,7 @@ impl Knapsack {
         ensures end { IsNone result ↔ (left self.now walk.old ≡ []) }
         ensures feasible { IfSome result (λ p. feasible self.now p.1 ≡ true) }
         ensures value { IfSome result (λ p. p.0 ≡ value self.now p.1) }
+        ensures parts { IfSome result (λ p. length p.0 ≡ self.now.objectives) }
     {
         match self.next_flip(walk) {
             Some(point) => Some(point),
@@ -88,7 +90,7 @@ impl Knapsack {
         ensures { result ≡ point_if_feasible self.now (flipped tally.now.sol item) }
     {
         if tally.sol.bit(item) {
-            self.with_taken(tally, item)
+            Some(self.with_taken(tally, item))
         } else {
             self.with_put(tally, item)
         }

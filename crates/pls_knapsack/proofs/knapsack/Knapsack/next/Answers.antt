@@ -1,6 +1,7 @@
-use Rattle.std.proofs.Common.{◌≡◌, ◌++◌, ◌∷◌, ap, sym, ◌∙◌}
+use Rattle.std.proofs.Common.{◌≡◌, ◌++◌, ◌∷◌, ℤ, List, length, ap, sym, ◌∙◌}
 use Rattle.pls_knapsack.specs.Neighbours.{points}
 use Rattle.pls_knapsack.specs.Walk.{left, flips_left, exchanges_left}
+use Rattle.pls_knapsack.proofs.Vectors.{length-value, if_some-length}
 use Rattle.pls_knapsack.proofs.Points.{left-exchange, left-nothing, if_none-map, ends}
 use Rattle.pls_knapsack.proofs.knapsack.Knapsack.next.Goals as goal
 
@@ -41,3 +42,9 @@ returns-in-None-clause-end c =
     (if_none-map c.next_exchange.result
     (λ done. left-nothing k (flips_left k new) (exchanges_left k new) (exchange.flips ∙ flip.end) done)
     exchange.end)
+
+pub returns-in-Some-clause-parts : goal.returns-in-Some-clause-parts
+returns-in-Some-clause-parts c = ap (λ (parts : List ℤ). length parts) c.in-Some.ensures.value ∙ length-value c.args.self.now c.in-Some.point.1
+
+pub returns-in-None-clause-parts : goal.returns-in-None-clause-parts
+returns-in-None-clause-parts c = if_some-length c.args.self.now c.next_exchange.result c.next_exchange.ensures.value

@@ -3,6 +3,7 @@ use Rattle.pls_vectors.specs.Solution.{Solution}
 use Rattle.pls_knapsack.specs.Instance.{Instance}
 use Rattle.pls_knapsack.specs.Neighbours.{flips, exchanges, neighbours, points}
 use Rattle.pls_knapsack.specs.Walk.{left}
+use Rattle.pls_knapsack.proofs.Counts.{length-neighbours}
 use Rattle.pls_knapsack.proofs.Points.{flips_from, puts_from-end, exchanges_from, points-append}
 use Rattle.pls_knapsack.proofs.knapsack.Knapsack.walk.Goals as goal
 
@@ -17,3 +18,9 @@ returns-clause-left c =
     ap (λ front. points k (flips_from k.items t 0) ++ points k (front ++ exchanges_from k t 0)) done
     ∙ (sym (points-append k (flips_from k.items t 0) (exchanges_from k t 0))
     ∙ ap (λ (q : Solution). points k (flips k q ++ exchanges k q)) c.tally-start.ensures.sol)
+
+pub returns-clause-few : goal.returns-clause-few
+returns-clause-few c =
+    let items = ap (λ (k : Instance). k.items) c.self.view_is in
+    let few = c.self.invariant.few_items in
+    length-neighbours c.args.self.now c.args.sol.now (omega arith)
