@@ -1,7 +1,7 @@
 use Rattle.std.specs.Prelude.{ℕ, zero, suc, ◌+◌, Bool, true, false, ◌&&◌, nat_le, List, [], ◌∷◌, length, slice_get, Option, Some, None, if◌then◌else◌}
 use Rattle.pls_archive.specs.declared.point.Point.{Point}
 use Rattle.pls_archive.specs.declared.call.Call.{Call}
-use Rattle.pls_archive.specs.declared.call.Call.TheVariants.{Update, Covered, Member, Snapshot}
+use Rattle.pls_archive.specs.declared.call.Call.TheVariants.{Update, Member, Snapshot}
 use Rattle.pls_archive.specs.declared.call.Reply.{Reply}
 use Rattle.pls_archive.specs.declared.call.Reply.TheVariants.{Added, Refused, Yes, No, Points}
 use Rattle.pls_archive.specs.declared.call.Entry.{Entry}
