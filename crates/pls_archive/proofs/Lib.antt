@@ -1,2 +1,4 @@
 pub mod Histories
+pub mod Legal
 pub mod Members
+pub mod Runs

@@ -74,11 +74,15 @@ module _ (reply : List Point → Call → Reply) (neighbours : Point → List Po
       for_point (slice_get (accepted run.history) done) run
       (λ p. unless_cut (exploring run (suc done) p).cut (exploring run (suc done) p) (exploring_all fuel (suc done)))
 
+  -- a run at its beginning: the starts are submitted
+  abbrev pub begun : List Point → ℕ → Run
+  begun starts moves =
+      record { history = submitting [] starts; moves_left = moves; explored = 0; cut = false }
+
   -- The sequential run: the starts are submitted, then every accepted point is explored in order of
   -- acceptance, and last the archive is asked for its members. No run accepts more points than starts and
   -- moves, so the fuel is never used up.
   abbrev pub sequential_run : List Point → ℕ → Run
   sequential_run starts moves =
-      let begun : Run = record { history = submitting [] starts; moves_left = moves; explored = 0; cut = false } in
-      let ended : Run = exploring_all (length starts + moves + 1) 0 begun in
+      let ended : Run = exploring_all (length starts + moves + 1) 0 (begun starts moves) in
       record ended { history = calling ended.history Snapshot }
