@@ -7,7 +7,7 @@ use Rattle.pls_archive.specs.declared.call.Call.TheVariants.{Update, Member, Sna
 use Rattle.pls_archive.specs.declared.call.Reply.{Reply}
 use Rattle.pls_archive.specs.declared.call.Entry.{Entry}
 use Rattle.pls_archive.specs.History.{accepted, with_call}
-use Rattle.pls_archive.specs.Run.{Run, unless_cut, for_point, submitting, spending, skips, exploring, exploring_all, begun, sequential_run}
+use Rattle.pls_archive.specs.Run.{Run, unless_cut, for_point, submitting, spending, skips, exploring, exploring_all, begun, ended, sequential_run}
 
 -- The forms of induction over the sequential run.
 
@@ -82,5 +82,5 @@ module _
   pub sequential_run-keeps : P [] → (starts : List Point) (moves : ℕ) → P (sequential_run reply neighbours starts moves).history
   sequential_run-keeps none starts moves =
       let started : P (begun reply neighbours starts moves).history = submitting-keeps starts [] none in
-      let ended = exploring_all-keeps reply neighbours (λ r. P r.history) exploring-keeps _ 0 (begun reply neighbours starts moves) started in
-      keeps _ Snapshot ended
+      let finished = exploring_all-keeps reply neighbours (λ r. P r.history) exploring-keeps _ 0 (begun reply neighbours starts moves) started in
+      keeps (ended reply neighbours starts moves).history Snapshot finished

@@ -79,10 +79,13 @@ module _ (reply : List Point → Call → Reply) (neighbours : Point → List Po
   begun starts moves =
       record { history = submitting [] starts; moves_left = moves; explored = 0; cut = false }
 
+  -- The run at its end: every accepted point was explored in order of acceptance, or one exploration was cut.
+  -- No run accepts more points than starts and moves, so the fuel is never used up.
+  abbrev pub ended : List Point → ℕ → Run
+  ended starts moves = exploring_all (length starts + moves + 1) 0 (begun starts moves)
+
   -- The sequential run: the starts are submitted, then every accepted point is explored in order of
-  -- acceptance, and last the archive is asked for its members. No run accepts more points than starts and
-  -- moves, so the fuel is never used up.
+  -- acceptance, and last the archive is asked for its members.
   abbrev pub sequential_run : List Point → ℕ → Run
   sequential_run starts moves =
-      let ended : Run = exploring_all (length starts + moves + 1) 0 (begun starts moves) in
-      record ended { history = calling ended.history Snapshot }
+      record (ended starts moves) { history = calling (ended starts moves).history Snapshot }
