@@ -42,3 +42,28 @@ impl PointList {
         self.points.as_slice()
     }
 }
+
+#[cfg(test)]
+mod tests {
+    use crate::{Point, PointList};
+    use pls_vectors::{Sol, Vector};
+    use std::process::Abort;
+
+    fn point(rt: &impl Abort, parts: [i64; 2]) -> Point {
+        Point {
+            value: Vector::new(&parts).expect(rt, "two parts in range"),
+            sol: Sol::bits(3),
+        }
+    }
+
+    #[test]
+    fn keeps_the_points_in_their_order(rt: HostRuntime) {
+        let first = point(&rt, [3, 1]);
+        let second = point(&rt, [1, 3]);
+        let points = Vec::from_slice(rt.alloc(), &[first, second]).expect(&rt, "memory");
+        let list = PointList::from_vec(points);
+        assert_eq!(rt; list.as_slice(), [first, second].as_slice());
+        let points = list.into_vec();
+        assert_eq!(rt; points.as_slice(), [first, second].as_slice());
+    }
+}
