@@ -47,6 +47,7 @@ impl PointList {
 mod tests {
     use crate::{Point, PointList};
     use pls_vectors::{Sol, Vector};
+    use std::alloc::Global;
     use std::process::Abort;
 
     fn point(rt: &impl Abort, parts: [i64; 2]) -> Point {
@@ -56,14 +57,17 @@ mod tests {
         }
     }
 
+    fn two_points(rt: &impl Abort, alloc: Global) -> Vec<Point> {
+        vec![in alloc; point(rt, [3, 1]), point(rt, [1, 3])].expect(rt, "memory for two points")
+    }
+
     #[test]
     fn keeps_the_points_in_their_order(rt: HostRuntime) {
-        let first = point(&rt, [3, 1]);
-        let second = point(&rt, [1, 3]);
-        let points = Vec::from_slice(rt.alloc(), &[first, second]).expect(&rt, "memory");
-        let list = PointList::from_vec(points);
-        assert_eq!(rt; list.as_slice(), [first, second].as_slice());
+        let expected = two_points(&rt, rt.alloc());
+        let list = PointList::from_vec(two_points(&rt, rt.alloc()));
+        assert_eq!(rt; list.as_slice(), expected.as_slice());
         let points = list.into_vec();
-        assert_eq!(rt; points.as_slice(), [first, second].as_slice());
+        assert_eq!(rt; points.as_slice(), expected.as_slice());
+        assert_eq!(rt; points.len(), 2);
     }
 }
