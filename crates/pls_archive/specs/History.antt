@@ -1,4 +1,4 @@
-use Rattle.std.specs.Prelude.{◌≡◌, ℕ, List, [], ◌∷◌, ◌++◌, length}
+use Rattle.std.specs.Prelude.{◌≡◌, ℕ, ℤ, List, [], ◌∷◌, ◌++◌, length}
 use Rattle.std.specs.List.{flat_map}
 use Rattle.pls_archive.specs.declared.point.Point.{Point}
 use Rattle.pls_archive.specs.declared.call.Call.{Call}
@@ -32,6 +32,17 @@ submissions history = flat_map (λ e. submitted_by e.call) history
 -- the accepted points of a history, in order
 abbrev pub accepted : List Entry → List Point
 accepted history = flat_map (λ e. accepted_by e.call e.reply) history
+
+-- the values that a call asks for among those of the members
+abbrev pub asked_by : Call → List (List ℤ)
+asked_by (Update p) = []
+asked_by (Covered v) = []
+asked_by (Member v) = v ∷ []
+asked_by Snapshot = []
+
+-- the values that a history asks for among those of the members, in order
+abbrev pub values_asked : List Entry → List (List ℤ)
+values_asked history = flat_map (λ e. asked_by e.call) history
 
 -- What an archive replies, as a function of the submissions before the call.
 module _ (reply : List Point → Call → Reply) where

@@ -1,3 +1,4 @@
 pub mod Reply
 pub mod History
 pub mod Run
+pub mod RunLaws

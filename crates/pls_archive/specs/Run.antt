@@ -1,7 +1,7 @@
 use Rattle.std.specs.Prelude.{ℕ, zero, suc, ◌+◌, Bool, true, false, ◌&&◌, nat_le, List, [], ◌∷◌, length, slice_get, Option, Some, None, if◌then◌else◌}
 use Rattle.pls_archive.specs.declared.point.Point.{Point}
 use Rattle.pls_archive.specs.declared.call.Call.{Call}
-use Rattle.pls_archive.specs.declared.call.Call.TheVariants.{Update, Covered, Member, Snapshot}
+use Rattle.pls_archive.specs.declared.call.Call.TheVariants.{Update, Member, Snapshot}
 use Rattle.pls_archive.specs.declared.call.Reply.{Reply}
 use Rattle.pls_archive.specs.declared.call.Reply.TheVariants.{Added, Refused, Yes, No, Points}
 use Rattle.pls_archive.specs.declared.call.Entry.{Entry}
@@ -74,11 +74,18 @@ module _ (reply : List Point → Call → Reply) (neighbours : Point → List Po
       for_point (slice_get (accepted run.history) done) run
       (λ p. unless_cut (exploring run (suc done) p).cut (exploring run (suc done) p) (exploring_all fuel (suc done)))
 
+  -- a run at its beginning: the starts are submitted
+  abbrev pub begun : List Point → ℕ → Run
+  begun starts moves =
+      record { history = submitting [] starts; moves_left = moves; explored = 0; cut = false }
+
+  -- The run at its end: every accepted point was explored in order of acceptance, or one exploration was cut.
+  -- No run accepts more points than starts and moves, so the fuel is never used up.
+  abbrev pub ended : List Point → ℕ → Run
+  ended starts moves = exploring_all (length starts + moves + 1) 0 (begun starts moves)
+
   -- The sequential run: the starts are submitted, then every accepted point is explored in order of
-  -- acceptance, and last the archive is asked for its members. No run accepts more points than starts and
-  -- moves, so the fuel is never used up.
+  -- acceptance, and last the archive is asked for its members.
   abbrev pub sequential_run : List Point → ℕ → Run
   sequential_run starts moves =
-      let begun : Run = record { history = submitting [] starts; moves_left = moves; explored = 0; cut = false } in
-      let ended : Run = exploring_all (length starts + moves + 1) 0 begun in
-      record ended { history = calling ended.history Snapshot }
+      record (ended starts moves) { history = calling (ended starts moves).history Snapshot }

@@ -5,9 +5,11 @@
 #![tactic(auto)]
 
 mod call;
+mod laws;
 mod point;
 mod point_list;
 
 pub use call::{Call, Entry, Reply, Taken};
+pub use laws::{order_laws, run_laws};
 pub use point::Point;
 pub use point_list::PointList;
