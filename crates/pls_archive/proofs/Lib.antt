@@ -1,3 +1,4 @@
+pub mod Ends
 pub mod Explored
 pub mod Histories
 pub mod InOrder

@@ -1,10 +1,11 @@
-use Rattle.std.proofs.Common.{◌≡◌, ℕ, ℤ, Bool, true, false, not, ◌&&◌, ◌⊎◌, inl, inr, if◌then◌else◌, List, [], ◌∷◌, ◌++◌, get_or, filter, All, refl, ap, sym, subst, ◌∙◌, append_assoc, arith}
-use Rattle.std.specs.List.{Contains}
+use Rattle.std.proofs.Common.{◌≡◌, ◌<◌, ℕ, ℤ, Bool, true, false, not, ◌&&◌, ◌⊎◌, inl, inr, if◌then◌else◌, List, [], ◌∷◌, ◌++◌, length, get_or, filter, All, refl, ap, sym, subst, ◌∙◌, append_assoc, arith}
+use Rattle.std.specs.List.{Contains, list_any}
 use Rattle.std.proofs.lemmas.Bool.{cases_Bool, and_parts, and_from, or_left, or_right, or_from, both_ways, false_from_ne_true}
 use Rattle.std.proofs.lemmas.List.Elements.{All-nil, All-append, All-push, All-weaker, All-contains, All-filter, Contains-append_left, Contains-append_right, Contains-push}
 use Rattle.std.proofs.lemmas.List.Folds.{list_any-append, list_any_none, list_any_at}
 use Rattle.pls_vectors.specs.Archive.{dominates}
 use Rattle.pls_vectors.specs.Dominance.{weakly_dominates}
+use Rattle.pls_vectors.proofs.Archive.{archive-undominated, dominates-covered}
 use Rattle.pls_vectors.proofs.Dominance.{weakly_dominates-refl, weakly_dominates-trans}
 use Rattle.pls_vectors.proofs.Lists.{list_any-weaker, All-none}
 use Rattle.pls_archive.specs.declared.point.Point.{Point}
@@ -16,9 +17,9 @@ use Rattle.pls_archive.specs.History.{submissions, accepted, with_call}
 use Rattle.pls_archive.specs.Reply.{point_weakly_dominates, members, some_weakly_dominates, has_value, removed_by, nondominated}
 use Rattle.pls_archive.specs.Run.{Run, is_no, exploring, ended}
 use Rattle.pls_archive.specs.RunLaws.{IsParetoLocalOptimumSet, EndsInLocalOptima}
-use Rattle.pls_archive.proofs.Explored.{Steps, ended-Ends, accepted-exploring}
+use Rattle.pls_archive.proofs.Ends.{Steps, ended-Ends, accepted-exploring}
 use Rattle.pls_archive.proofs.Histories.{accepted-with_added, accepted-with_refused, submissions-with_update, submissions-with_covered, accepted-with_covered, submissions-with_member, accepted-with_member, submissions-with_snapshot, accepted-with_snapshot}
-use Rattle.pls_archive.proofs.Members.{some_weakly_dominates-members, members-with_covered, members-with_new, update-covered, update-new}
+use Rattle.pls_archive.proofs.Members.{point_weakly_dominates-IsPreorder, some_weakly_dominates-members, members-with_covered, members-with_new, update-covered, update-new}
 use Rattle.pls_archive.proofs.Moves.{submissions-spending}
 use Rattle.pls_archive.proofs.Runs.{exploring-by_cases, exploring-keeps, submitting-keeps}
 
@@ -175,16 +176,41 @@ module _ (neighbours : Point → List Point) where
         λ cut. tt,
       )
 
-  -- where all accepted points are settled, the members are a Pareto local optimum set
-  local_optima_from_settled :
-      (submitted taken : List Point) → Settles taken submitted taken → IsParetoLocalOptimumSet neighbours (members submitted)
-  local_optima_from_settled submitted taken s k d within =
+  -- where all accepted points are settled, the neighbours of each member are weakly dominated
+  neighbours_of_member :
+      (submitted taken : List Point) → Settles taken submitted taken → (k : ℕ) (d : Point) → k < length (members submitted)
+      → All (λ q. some_weakly_dominates submitted q.value ≡ true) (neighbours (get_or (members submitted) k d))
+  neighbours_of_member submitted taken s k d within =
       let m = get_or (members submitted) k d in
-      let own = list_any_at (λ p. weakly_dominates p.value m.value && weakly_dominates m.value p.value) (members submitted) k d within (and_from _ _ (weakly_dominates-refl m.value) (weakly_dominates-refl m.value)) in
+      let itself = weakly_dominates-refl m.value in
+      let own = list_any_at (λ p. weakly_dominates p.value m.value && weakly_dominates m.value p.value) (members submitted) k d within (and_from _ _ itself itself) in
       elim (All-contains (IsSettled submitted) taken m s.settled (s.members_taken k d within)) [
         | inl none ↦ absurd (both_ways _ none own)
-        | inr all ↦ λ j e inside. some_weakly_dominates-members submitted (get_or (neighbours m) j e).value ∙ all j e inside
+        | inr all ↦ all
       ]
+
+  -- what a submission weakly dominates does not dominate a member
+  covered_dominates_none :
+      (submitted : List Point) (m q : Point) → list_any (λ r. dominates point_weakly_dominates r m) submitted ≡ false
+      → some_weakly_dominates submitted q.value ≡ true → dominates point_weakly_dominates q m ≡ false
+  covered_dominates_none submitted m q undominated covered =
+      false_from_ne_true _
+      (λ h. both_ways _ undominated
+      (list_any-weaker (λ r. weakly_dominates r.value q.value) (λ r. dominates point_weakly_dominates r m)
+      (λ r by. dominates-covered point_weakly_dominates-IsPreorder r q m by h) submitted covered))
+
+  local_optima_from_settled :
+      (submitted taken : List Point) → Settles taken submitted taken → IsParetoLocalOptimumSet neighbours (members submitted)
+  local_optima_from_settled submitted taken s = record {
+    optima = λ k d within.
+        let m = get_or (members submitted) k d in
+        let undominated = archive-undominated point_weakly_dominates submitted k d within in
+        list_any_none (λ q. dominates point_weakly_dominates q m) (neighbours m)
+        (λ j e inside. covered_dominates_none submitted m (get_or (neighbours m) j e) undominated (neighbours_of_member submitted taken s k d within j e inside));
+    closed = λ k d within j e inside.
+        let q = get_or (neighbours (get_or (members submitted) k d)) j e in
+        some_weakly_dominates-members submitted q.value ∙ neighbours_of_member submitted taken s k d within j e inside;
+  }
 
   pub sequential_run-EndsInLocalOptima : EndsInLocalOptima neighbours
   sequential_run-EndsInLocalOptima starts moves uncut =

@@ -1,17 +1,21 @@
 use Rattle.std.specs.Prelude.{◌≡◌, ℕ, ◌+◌, ◌<◌, true, false, IsTrue, List, ◌++◌, length, map, All}
-use Rattle.std.specs.List.{flat_map}
+use Rattle.std.specs.List.{flat_map, list_any}
+use Rattle.pls_vectors.specs.Archive.{dominates}
 use Rattle.pls_archive.specs.declared.point.Point.{Point}
 use Rattle.pls_archive.specs.declared.call.Call.{Call}
 use Rattle.pls_archive.specs.declared.call.Reply.{Reply}
 use Rattle.pls_archive.specs.History.{submissions, accepted, values_asked, IsLegal}
-use Rattle.pls_archive.specs.Reply.{members, some_weakly_dominates, nondominated}
+use Rattle.pls_archive.specs.Reply.{point_weakly_dominates, members, some_weakly_dominates, nondominated}
 use Rattle.pls_archive.specs.Run.{Run, exploring_all, begun, ended, sequential_run}
 
--- A set of solutions whose neighbours are all weakly dominated by one of them. So no neighbour dominates any
--- of them: each is a Pareto local optimum (Paquete, Chiarandini and Stützle 2004).
-abbrev pub IsParetoLocalOptimumSet : (Point → List Point) → List Point → Type 0
-IsParetoLocalOptimumSet neighbours points =
-    All (λ p. All (λ q. IsTrue (some_weakly_dominates points q.value)) (neighbours p)) points
+-- none of the point's neighbours dominates it (Paquete, Chiarandini and Stützle 2004)
+abbrev pub IsParetoLocalOptimum : (Point → List Point) → Point → Type 0
+IsParetoLocalOptimum neighbours p = list_any (λ q. dominates point_weakly_dominates q p) (neighbours p) ≡ false
+
+-- Pareto local optima, whose neighbours are all weakly dominated by one of them
+pub record IsParetoLocalOptimumSet (neighbours : Point → List Point) (points : List Point) : Type 0 where
+  pub optima : All (IsParetoLocalOptimum neighbours) points
+  pub closed : All (λ p. All (λ q. IsTrue (some_weakly_dominates points q.value)) (neighbours p)) points
 
 -- what holds of the sequential run over any rule of replies
 module _ (reply : List Point → Call → Reply) (neighbours : Point → List Point) where

@@ -1,7 +1,8 @@
 //! Points, the calls of an archive with their replies, and its sequential histories.
 //!
 //! `specs/` defines what an archive of nondominated points replies, which histories are legal, and
-//! the sequential run of Pareto local search as the list of its calls with their replies.
+//! the sequential run of Pareto local search as the list of its calls with their replies. The laws of that
+//! run and of the order of points are the contracts of [`run_laws`] and [`order_laws`].
 #![tactic(auto)]
 
 mod call;
