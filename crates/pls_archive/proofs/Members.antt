@@ -1,7 +1,7 @@
 use Rattle.std.proofs.Common.{◌≡◌, ◌↔◌, ℕ, ℤ, Bool, true, false, not, IsTrue, if◌then◌else◌, List, [], ◌∷◌, ◌++◌, filter, refl, ap, sym, ◌∙◌}
 use Rattle.pls_vectors.specs.Archive.{IsPreorder, dominates}
 use Rattle.pls_vectors.specs.Solution.{no_items}
-use Rattle.pls_vectors.proofs.Archive.{covered_by-archive, archive-by_cases}
+use Rattle.pls_vectors.proofs.Archive.{weakly_dominated_by-archive, archive-by_cases}
 use Rattle.pls_vectors.proofs.Dominance.{weakly_dominates-refl, weakly_dominates-trans}
 use Rattle.pls_archive.specs.declared.point.Point.{Point}
 use Rattle.pls_archive.specs.declared.call.Call.TheVariants.{Update, Covered, Member}
@@ -20,7 +20,7 @@ pub some_weakly_dominates-members :
     (submitted : List Point) (v : List ℤ) → some_weakly_dominates (members submitted) v ≡ some_weakly_dominates submitted v
 some_weakly_dominates-members submitted v =
     let p : Point = record { value = v; sol = no_items 0 } in
-    covered_by-archive point_weakly_dominates-IsPreorder submitted p
+    weakly_dominated_by-archive point_weakly_dominates-IsPreorder submitted p
 
 -- the members after one more submission
 module _ (submitted : List Point) (p : Point) where

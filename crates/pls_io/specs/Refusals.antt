@@ -17,6 +17,6 @@ pub record TakesAll (limit : ℕ) (left : Option (List ℕ)) (read : List ℕ) (
 abbrev pub IsTooLong : ℕ → Option (List ℕ) → Type 0
 IsTooLong limit left = (bytes : List ℕ) → left ≡ Some bytes → limit < length bytes
 
--- a proper front of the piece was written, as long as the refusal says
-abbrev pub WritesFront : Option (List ℕ) → List ℕ → Option (List ℕ) → WriteRefusal → Type 0
-WritesFront written piece written' (WriteFault n) = (n < length piece) × Writes n written piece written'
+-- a proper prefix of the piece was written, as long as the refusal says
+abbrev pub WritesPrefix : Option (List ℕ) → List ℕ → Option (List ℕ) → WriteRefusal → Type 0
+WritesPrefix written piece written' (WriteFault n) = (n < length piece) × Writes n written piece written'

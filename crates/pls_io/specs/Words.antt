@@ -24,7 +24,7 @@ uncommented inside [] = []
 uncommented inside (b ∷ bs) =
     let now = is_in_comment inside b in (if now then 32 else b) ∷ uncommented now bs
 
--- A byte at this place, before these words: it joins the word that begins directly behind it, or is a word alone.
+-- A byte at this place, before these words: it joins the word that begins directly after it, or is a word alone.
 abbrev pub joined : ℕ → ℕ → List PlacedWord → List PlacedWord
 joined place b [] = record { place = place; text = b ∷ [] } ∷ []
 joined place b (w ∷ ws) =

@@ -56,11 +56,11 @@ sum_of_chosen n s amount = sum_by (λ item. if chosen s item then amount item el
 abbrev pub sum_chosen : Instance → Solution → (ℕ → ℕ) → ℕ
 sum_chosen k s amount = sum_of_chosen k.items s amount
 
--- the value of a choice: for each profit row the sum over the chosen items
+-- the objective vector of a choice: the total profit in each profit row
 unfoldable pub value : Instance → Solution → List ℤ
 value k s = map (λ row. pos (sum_chosen k s (profit k row))) (range_with_len 0 k.objectives)
 
--- the load of a weight row: the sum over the chosen items
+-- the total weight in a weight row
 abbrev pub load : Instance → Solution → ℕ → ℕ
 load k s row = sum_chosen k s (weight k row)
 
@@ -68,7 +68,7 @@ load k s row = sum_chosen k s (weight k row)
 unfoldable pub fits : Instance → Solution → Bool
 fits k s = list_all (λ row. nat_le (load k s row) (slice_index k.capacities row)) (range_with_len 0 k.rules)
 
--- no bit stands beyond those of the first n items: word j has those of the items 64 j up to 64 j + 63
+-- no bit stands beyond those of the first n items: word j, of 64 bits, has those of the items 64 j up to 64 j + 63
 unfoldable pub no_other_bit : ℕ → Solution → Bool
 no_other_bit n s = list_all (λ j. nat_lt (slice_index s.words j) (2 ^ (n - 64 * j))) (range_with_len 0 32)
 
@@ -81,7 +81,7 @@ pub record IsOrderOf (k : Instance) (order : List ℕ) : Type 0 where
   pub items : All (λ item. item < k.items) order
   pub once : AllPairs (λ a b. a ≢ b) order
 
--- what a greedy fill makes of a choice along an order: it takes each item that still fits
+-- a choice filled greedily along an order: an item goes in unless the choice with it is infeasible
 unfoldable pub filled : Instance → Solution → List ℕ → Solution
 filled k s [] = s
 filled k s (item ∷ order) = filled k (if feasible k (with_item s item true) then with_item s item true else s) order

@@ -27,7 +27,7 @@ pub record IsWalkOf (k : Instance) (w : Walk) : Type 0 where
 abbrev pub flips_left : Instance → Walk → List Solution
 flips_left k w = map (λ i. flipped w.start.sol i) (drop w.flip (items_of k))
 
--- the exchanges that a walk has still to try: those of the item that is taken out, and then those of the chosen items behind it
+-- the exchanges that a walk has still to try: those of the item that is taken out, and then those of the chosen items after it
 abbrev pub exchanges_left : Instance → Walk → List Solution
 exchanges_left k w =
     map (λ j. with_item w.reduced.sol j true) (filter (λ j. not (chosen w.start.sol j)) (drop w.put (items_of k)))

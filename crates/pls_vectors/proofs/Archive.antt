@@ -6,7 +6,7 @@ use Rattle.std.proofs.lemmas.List.{append-nil}
 use Rattle.std.proofs.lemmas.List.Elements.{All-nil, All-head, All-tail, All-append, All-weaker, All-contains_itself, filter-append}
 use Rattle.std.proofs.lemmas.List.Folds.{list_any-append}
 use Rattle.std.proofs.lemmas.List.Sums.{AllPass-from_list_all, list_all-from_AllPass}
-use Rattle.pls_vectors.specs.Archive.{IsPreorder, covered_by, dominates, same_value, belongs, members_among, nondominated_archive}
+use Rattle.pls_vectors.specs.Archive.{IsPreorder, weakly_dominated_by, dominates, same_value, belongs, members_among, nondominated_archive}
 use Rattle.pls_vectors.specs.ArchiveLaws.{CoversTheSame, GrowsBySubmission, HasSubmissionsOnly}
 use Rattle.pls_vectors.proofs.Bool.{and_not_itself, not_or_and, not_and_not, or_absorbs, or_under, or_beside}
 use Rattle.pls_vectors.proofs.FromEnd.{from_end}
@@ -51,7 +51,7 @@ module _ {P : Type 0} (covers : P → P → Bool) where
       ∙ sym (filter-append (λ r. not (dominates covers p r)) (one old) (members_among covers all before later))))
 
   -- a new submission belongs where none before covers it
-  belongs-itself : (all : List P) (p : P) → belongs covers (all ++ p ∷ []) all p ≡ not (covered_by covers all p)
+  belongs-itself : (all : List P) (p : P) → belongs covers (all ++ p ∷ []) all p ≡ not (weakly_dominated_by covers all p)
   belongs-itself all p =
       belongs-more all all p p
       ∙ (ap (λ b. belongs covers all all p && not b) (and_not_itself (covers p p))
@@ -62,7 +62,7 @@ module _ {P : Type 0} (covers : P → P → Bool) where
   archive-more :
       (all : List P) (p : P)
       → nondominated_archive covers (all ++ p ∷ [])
-      ≡ spared_by p (nondominated_archive covers all) ++ (if not (covered_by covers all p) then p ∷ [] else [])
+      ≡ spared_by p (nondominated_archive covers all) ++ (if not (weakly_dominated_by covers all p) then p ∷ [] else [])
   archive-more all p =
       members_among-append (all ++ p ∷ []) [] all (p ∷ [])
       ∙ (ap (λ ms. ms ++ members_among covers (all ++ p ∷ []) all (p ∷ [])) (members_among-more all [] all p)
@@ -108,7 +108,7 @@ module _ {P : Type 0} {covers : P → P → Bool} (order : IsPreorder covers) wh
 
   -- a submission that was covered dominates no member
   spared_by-covered :
-      (all : List P) (p : P) → covered_by covers all p ≡ true → spared_by covers p (nondominated_archive covers all) ≡ nondominated_archive covers all
+      (all : List P) (p : P) → weakly_dominated_by covers all p ≡ true → spared_by covers p (nondominated_archive covers all) ≡ nondominated_archive covers all
   spared_by-covered all p covered = filter-all _ _ (All-weaker _ _ spared _ (archive-undominated covers all))
     where
       spared : (m : P) → list_any (λ r. dominates covers r m) all ≡ false → not (dominates covers p m) ≡ true
@@ -118,7 +118,7 @@ module _ {P : Type 0} {covers : P → P → Bool} (order : IsPreorder covers) wh
 
   -- the members after one more submission, by whether some submission covers it
   pub archive-by_cases :
-      (all : List P) (p : P) (b : Bool) → covered_by covers all p ≡ b
+      (all : List P) (p : P) (b : Bool) → weakly_dominated_by covers all p ≡ b
       → nondominated_archive covers (all ++ p ∷ [])
       ≡ (if b then nondominated_archive covers all else spared_by covers p (nondominated_archive covers all) ++ p ∷ [])
   archive-by_cases all p true e =
@@ -130,12 +130,12 @@ module _ {P : Type 0} {covers : P → P → Bool} (order : IsPreorder covers) wh
       ∙ ap (λ b. spared_by covers p (nondominated_archive covers all) ++ (if not b then p ∷ [] else [])) e
 
   -- what a point that p does not spare covers, p covers
-  covered_by-spared :
+  weakly_dominated_by-spared :
       (p x : P) (b : Bool) → (covers p x ≡ true → b ≡ true)
-      → (members : List P) → (covered_by covers (spared_by covers p members) x || b) ≡ (covered_by covers members x || b)
-  covered_by-spared p x b h [] = refl
-  covered_by-spared p x b h (m ∷ members) =
-      let rest = covered_by-spared p x b h members in
+      → (members : List P) → (weakly_dominated_by covers (spared_by covers p members) x || b) ≡ (weakly_dominated_by covers members x || b)
+  weakly_dominated_by-spared p x b h [] = refl
+  weakly_dominated_by-spared p x b h (m ∷ members) =
+      let rest = weakly_dominated_by-spared p x b h members in
       elim (cases_Bool (dominates covers p m)) [
         | inl dominated ↦
             let by_p = and_parts (covers p m) (not (covers m p)) dominated in
@@ -144,25 +144,25 @@ module _ {P : Type 0} {covers : P → P → Bool} (order : IsPreorder covers) wh
       ]
 
   -- the archive covers what the submissions cover
-  pub covered_by-archive : CoversTheSame covers
-  covered_by-archive =
-      from_end (λ all. (x : P) → covered_by covers (nondominated_archive covers all) x ≡ covered_by covers all x)
-      (λ all p so_far x. covered_by-archive_more all p x (so_far x)) (λ x. refl)
+  pub weakly_dominated_by-archive : CoversTheSame covers
+  weakly_dominated_by-archive =
+      from_end (λ all. (x : P) → weakly_dominated_by covers (nondominated_archive covers all) x ≡ weakly_dominated_by covers all x)
+      (λ all p so_far x. weakly_dominated_by-archive_more all p x (so_far x)) (λ x. refl)
     where
-      covered_by-archive_more :
-          (all : List P) (p x : P) → covered_by covers (nondominated_archive covers all) x ≡ covered_by covers all x
-          → covered_by covers (nondominated_archive covers (all ++ p ∷ [])) x ≡ covered_by covers (all ++ p ∷ []) x
-      covered_by-archive_more all p x so_far =
+      weakly_dominated_by-archive_more :
+          (all : List P) (p x : P) → weakly_dominated_by covers (nondominated_archive covers all) x ≡ weakly_dominated_by covers all x
+          → weakly_dominated_by covers (nondominated_archive covers (all ++ p ∷ [])) x ≡ weakly_dominated_by covers (all ++ p ∷ []) x
+      weakly_dominated_by-archive_more all p x so_far =
           let members = nondominated_archive covers all in
           let both = list_any-append (λ q. covers q x) all (p ∷ []) in
-          elim (cases_Bool (covered_by covers all p)) [
+          elim (cases_Bool (weakly_dominated_by covers all p)) [
             | inl covered ↦
-                let absorbed = or_absorbs (covered_by covers all x) (covers p x) (λ h. list_any-weaker _ _ (λ r by. order.transitive r p x by h) all covered) in
-                ap (λ ms. covered_by covers ms x) (archive-by_cases all p true covered) ∙ (so_far ∙ (sym absorbed ∙ sym both))
+                let absorbed = or_absorbs (weakly_dominated_by covers all x) (covers p x) (λ h. list_any-weaker _ _ (λ r by. order.transitive r p x by h) all covered) in
+                ap (λ ms. weakly_dominated_by covers ms x) (archive-by_cases all p true covered) ∙ (so_far ∙ (sym absorbed ∙ sym both))
             | inr new ↦
-                ap (λ ms. covered_by covers ms x) (archive-by_cases all p false new)
+                ap (λ ms. weakly_dominated_by covers ms x) (archive-by_cases all p false new)
                 ∙ (list_any-append (λ q. covers q x) (spared_by covers p members) (p ∷ [])
-                ∙ (covered_by-spared p x (covers p x || false) (λ h. or_left _ _ h) members
+                ∙ (weakly_dominated_by-spared p x (covers p x || false) (λ h. or_left _ _ h) members
                 ∙ (ap (λ b. b || (covers p x || false)) so_far ∙ sym both)))
           ]
 
@@ -170,5 +170,5 @@ module _ {P : Type 0} {covers : P → P → Bool} (order : IsPreorder covers) wh
   pub archive-with_submission : GrowsBySubmission covers
   archive-with_submission all p =
       let members = nondominated_archive covers all in
-      archive-by_cases all p (covered_by covers all p) refl
-      ∙ ap (λ b. if b then members else spared_by covers p members ++ p ∷ []) (sym (covered_by-archive all p))
+      archive-by_cases all p (weakly_dominated_by covers all p) refl
+      ∙ ap (λ b. if b then members else spared_by covers p members ++ p ∷ []) (sym (weakly_dominated_by-archive all p))

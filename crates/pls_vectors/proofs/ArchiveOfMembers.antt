@@ -5,9 +5,9 @@ use Rattle.std.proofs.lemmas.List.Elements.{All-filter, filter_passes}
 use Rattle.std.proofs.lemmas.List.Folds.{list_any_none}
 use Rattle.std.proofs.lemmas.List.Kept.{AllPairs-filter}
 use Rattle.std.proofs.lemmas.List.Quantifiers.{all_pairs_push}
-use Rattle.pls_vectors.specs.Archive.{IsPreorder, covered_by, dominates, nondominated_archive, with_submission, AreIncomparable}
+use Rattle.pls_vectors.specs.Archive.{IsPreorder, weakly_dominated_by, dominates, nondominated_archive, with_submission, AreIncomparable}
 use Rattle.pls_vectors.specs.ArchiveLaws.{HasIncomparableMembers, IsIdempotent, StandsForSubmissions}
-use Rattle.pls_vectors.proofs.Archive.{spared_by, archive-by_cases, covered_by-archive, archive-with_submission}
+use Rattle.pls_vectors.proofs.Archive.{spared_by, archive-by_cases, weakly_dominated_by-archive, archive-with_submission}
 use Rattle.pls_vectors.proofs.FromEnd.{from_end}
 use Rattle.pls_vectors.proofs.Lists.{filter-all, All-none, AllPairs-before, AllPairs-last}
 
@@ -29,10 +29,10 @@ module _ {P : Type 0} {covers : P → P → Bool} (order : IsPreorder covers) wh
           let members = nondominated_archive covers all in
           let spared = spared_by covers p members in
           let R = AreIncomparable covers in
-          elim (cases_Bool (covered_by covers all p)) [
+          elim (cases_Bool (weakly_dominated_by covers all p)) [
             | inl covered ↦ subst (AllPairs R) (sym (archive-by_cases order all p true covered)) so_far
             | inr new ↦
-                let below = All-none (λ m. covers m p) members (covered_by-archive order all p ∙ new) in
+                let below = All-none (λ m. covers m p) members (weakly_dominated_by-archive order all p ∙ new) in
                 let below_spared = All-filter (λ m. not (dominates covers p m)) (λ m. covers m p ≡ false) members below in
                 let passes = filter_passes (λ m. not (dominates covers p m)) members in
                 subst (AllPairs R) (sym (archive-by_cases order all p false new))

@@ -10,8 +10,8 @@ pub record IsPreorder {P : Type 0} (covers : P → P → Bool) : Type 0 where
 -- a test of weak dominance between their values.
 module _ {P : Type 0} (covers : P → P → Bool) where
   -- some of the points weakly dominates x
-  abbrev pub covered_by : List P → P → Bool
-  covered_by points x = list_any (λ p. covers p x) points
+  abbrev pub weakly_dominated_by : List P → P → Bool
+  weakly_dominated_by points x = list_any (λ p. covers p x) points
 
   -- a weakly dominates b and has another value
   abbrev pub dominates : P → P → Bool
@@ -40,7 +40,7 @@ module _ {P : Type 0} (covers : P → P → Bool) where
   -- does not dominate, in their order, and then itself
   abbrev pub with_submission : List P → P → List P
   with_submission members p =
-      if covered_by members p then members else filter (λ q. not (dominates p q)) members ++ p ∷ []
+      if weakly_dominated_by members p then members else filter (λ q. not (dominates p q)) members ++ p ∷ []
 
   -- neither of two points covers the other
   abbrev pub AreIncomparable : P → P → Type 0

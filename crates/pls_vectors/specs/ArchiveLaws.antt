@@ -1,5 +1,5 @@
 use Rattle.std.specs.Prelude.{◌≡◌, Bool, List, [], ◌∷◌, ◌++◌, All, AllPairs, Contains}
-use Rattle.pls_vectors.specs.Archive.{covered_by, nondominated_archive, with_submission, AreIncomparable}
+use Rattle.pls_vectors.specs.Archive.{weakly_dominated_by, nondominated_archive, with_submission, AreIncomparable}
 
 -- what holds of the nondominated archive of every sequence of submissions
 module _ {P : Type 0} (covers : P → P → Bool) where
@@ -8,7 +8,7 @@ module _ {P : Type 0} (covers : P → P → Bool) where
 
   -- it covers what the submissions cover
   abbrev pub CoversTheSame : Type 0
-  CoversTheSame = (all : List P) (x : P) → covered_by covers (archive all) x ≡ covered_by covers all x
+  CoversTheSame = (all : List P) (x : P) → weakly_dominated_by covers (archive all) x ≡ weakly_dominated_by covers all x
 
   -- one more submission
   abbrev pub GrowsBySubmission : Type 0

@@ -1,7 +1,7 @@
 use Rattle.std.specs.Prelude.{◌^◌, ◌≤◌, ℤ, pos, neg_ℤ, Bool, true, false, ◌&&◌, List, [], ◌∷◌, length, int_le, IsTrue}
 use Rattle.std.specs.List.{list_all}
 
--- A weakly dominates b, larger better: they have equally many parts, and each part of a is at least that of b.
+-- Weak dominance under maximisation: as many parts, and none of a is below that of b.
 abbrev pub weakly_dominates : List ℤ → List ℤ → Bool
 weakly_dominates [] [] = true
 weakly_dominates [] (y ∷ ys) = false

@@ -6,7 +6,7 @@ pub record Solution : Type 0 where
   pub len : ℕ
   pub words : List ℕ
 
--- item i is chosen: its bit is bit i mod 64 of word i / 64
+-- item i is chosen: its bit in word i / 64 is set, the least bit being that of i mod 64 = 0
 abbrev pub chosen : Solution → ℕ → Bool
 chosen s i = bit_at (slice_index s.words (i / 64)) (i % 64) == 1
 

@@ -5,7 +5,7 @@ use std::marker::Model;
 
 /// A solution of at most 256 items or places, stored in 32 words of 64 bits.
 ///
-/// A choice of items has bit `i mod 64` of word `i / 64` for item `i`.
+/// Item `i` of a choice is one bit, number `i mod 64` from the least in word `i / 64`.
 #[derive(Clone, Copy, Debug, PartialEq, Eq)]
 pub struct Sol {
     len: u16,

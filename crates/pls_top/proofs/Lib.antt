@@ -1,0 +1,13 @@
+mod Worked
+mod Pieces
+mod Joined
+mod Writing
+mod Orders
+mod Endings
+mod ReadingDigits
+mod ReadingSteps
+mod ReadingSized
+mod SearchValues
+mod SearchRuns
+mod SearchTasks
+mod SearchOutcome

@@ -1,0 +1,42 @@
+use Rattle.std.proofs.Common.{Bool, arith, subst}
+use Rattle.pls_top.specs.Search.{Visits}
+use Rattle.pls_top.proofs.SearchTasks.{AllGoOn-start, AllGoOn-more, ExploresAll-cut, ExploresAll-whole}
+use Rattle.pls_top.proofs.search.SearchState.explore_all.Goals as goal
+
+pub loop-next-init : goal.loop-next-init
+loop-next-init c = record {
+  tasks = c.requires.tasks;
+  goes_on = AllGoOn-start c.args.instance.now c.args.self.now;
+  bound = omega arith;
+  moves = omega arith;
+  explored = omega arith;
+}
+
+pub loop-next-preserved : goal.loop-next-preserved
+loop-next-preserved c =
+    let now = c.loop-next.self in
+    let after = c.visit.new.self in
+    let task = c.index.result.now in
+    let visits = subst (λ (b : Bool). Visits c.args.instance.now task now after b) c.if-not-branch.false c.in_ok-visit.ensures.runs in
+    record {
+      tasks = c.in_ok-visit.ensures.tasks;
+      goes_on =
+          AllGoOn-more c.args.instance.now c.args.self.now now after c.loop-next.next task
+          c.loop-next.invariant.goes_on c.index.ensures (omega arith) (omega arith) visits;
+      bound = omega (arith, c.in_ok-visit.ensures.bound);
+      moves = omega (arith, c.in_ok-visit.ensures.moves);
+      explored = omega (arith, c.in_ok-visit.ensures.explored);
+    }
+
+pub returns-then-not-branch-clause-runs : goal.returns-then-not-branch-clause-runs
+returns-then-not-branch-clause-runs c =
+    let now = c.loop-next.self in
+    let after = c.visit.new.self in
+    let task = c.index.result.now in
+    let visits = subst (λ (b : Bool). Visits c.args.instance.now task now after b) c.if-not-branch.true c.in_ok-visit.ensures.runs in
+    ExploresAll-cut c.args.instance.now c.args.self.now now after c.loop-next.next task
+    c.loop-next.invariant.goes_on c.index.ensures (omega arith) (omega arith) visits
+
+pub returns-clause-runs : goal.returns-clause-runs
+returns-clause-runs c =
+    ExploresAll-whole c.args.instance.now c.args.self.now c.loop-next.self c.loop-next.next c.loop-next.invariant.goes_on (omega arith)
