@@ -9,3 +9,4 @@ pub mod Moves
 mod NineCalls
 pub mod Runs
 pub mod Sorted
+pub mod Submitted

@@ -1,7 +1,7 @@
-use Rattle.std.proofs.Common.{◌≡◌, ℕ, ◌+◌, ◌-◌, ◌*◌, ◌/◌, ◌%◌, ◌^◌, ◌<◌, ◌≤◌, ◌==◌, true, false, if◌then◌else◌, nat_lt, List, length, slice_index, drop, replicate, suc, zero, add-one, refl, ap, sym, ◌∙◌, inl, inr, arith}
+use Rattle.std.proofs.Common.{◌≡◌, ℕ, ◌+◌, ◌-◌, ◌*◌, ◌/◌, ◌%◌, ◌^◌, ◌<◌, ◌≤◌, ◌==◌, true, false, if◌then◌else◌, nat_lt, List, length, slice_index, drop, replicate, suc, zero, add-one, refl, ap, sym, ◌∙◌, inl, inr, arith, [], ◌∷◌}
 use Rattle.std.specs.List.{range_with_len, list_all}
 use Rattle.std.specs.Int.{bit_at}
-use Rattle.std.proofs.lemmas.Bool.{cases_lt, lt-ltb, le-leb}
+use Rattle.std.proofs.lemmas.Bool.{cases_lt, lt-ltb, le-leb, cond_both}
 use Rattle.std.proofs.lemmas.List.{get_or_past, get_or-replicate, length-replicate, drop_more, drop_all}
 use Rattle.std.proofs.lemmas.Nat.{pow_pos}
 use Rattle.std.proofs.lemmas.Nat.Bits.{bit_at-zero}
@@ -93,3 +93,15 @@ filled-passes k s order i below fails =
 pub filled-end : (k : Instance) (s : Solution) (order : List ℕ) (i : ℕ) → length order ≤ i → filled k s (drop i order) ≡ s
 unfolding filled
 filled-end k s order i past = ap (λ rest. filled k s rest) (drop_all i order past)
+
+-- a greedy fill stays feasible
+pub filled-feasible : (k : Instance) (s : Solution) (order : List ℕ) → feasible k s ≡ true → feasible k (filled k s order) ≡ true
+unfolding filled
+filled-feasible k s [] fits = fits
+filled-feasible k s (item ∷ order) fits =
+    filled-feasible k (if feasible k (with_item s item true) then with_item s item true else s) order
+    (cond_both (feasible k (with_item s item true)) (with_item s item true) s (λ q. feasible k q ≡ true) (λ taken. taken) (λ left. fits))
+
+pub greedy-feasible : (k : Instance) (order : List ℕ) → feasible k (greedy k order) ≡ true
+unfolding greedy
+greedy-feasible k order = filled-feasible k (no_items k.items) order (feasible-no_items k)

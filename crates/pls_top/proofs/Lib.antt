@@ -4,6 +4,7 @@ mod Joined
 mod Writing
 mod Orders
 mod Endings
+mod Fronts
 mod ReadingDigits
 mod ReadingSteps
 mod ReadingSized

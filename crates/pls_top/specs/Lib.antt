@@ -4,3 +4,4 @@ pub mod Sequential
 pub mod Report
 pub mod Answer
 pub mod Search
+pub mod Front

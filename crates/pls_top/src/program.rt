@@ -5,6 +5,7 @@ ghost use Rattle.std.specs.List.{range_with_len};
 ghost use Rattle.pls_io.specs.Streams.{Rose};
 ghost use Rattle.pls_knapsack.specs.Instance.{Instance};
 ghost use Rattle.pls_top.specs.Answer.{UsageExactly, TooLongExactly, BadInstanceExactly, WritesFaultLine, UsageInPart, WritesDueText, AnswersDueStatus, due_text, due_status, text_of, status_of, search_moves, Finishes, FinishesIfMemory};
+ghost use Rattle.pls_top.specs.Front.{IsSoundRun};
 ghost use Rattle.pls_top.specs.Reading.{instance};
 ghost use Rattle.pls_top.specs.Search.{Shows};
 ghost use Rattle.pls_top.specs.Sequential.{greedy_run};
@@ -45,6 +46,9 @@ pub fn run<S: Source, K: Sink>(
     ensures too_long { (bytes : List ℕ) → S.left source.old ≡ Some bytes → TooLongExactly bytes result }
     ensures bad_instance { (bytes : List ℕ) → S.left source.old ≡ Some bytes → BadInstanceExactly bytes result }
     ensures status { (bytes : List ℕ) → S.left source.old ≡ Some bytes → AnswersDueStatus (due_status words.now bytes) result }
+
+    // What the run is worth whose text is due: see `status` for when it is closed.
+    ensures sound { (k : Instance) → IsSoundRun k search_moves (greedy_run k search_moves) }
 
     // What was written.
     ensures fault_line { (before : List ℕ) → K.written sink.old ≡ Some before → WritesFaultLine result before (K.written sink.new) }

@@ -1,7 +1,8 @@
 use Rattle.std.proofs.Common.{◌≡◌, ◌≤◌, ◌<◌, ℕ, List, length, true, rules, subst, sym, ◌∙◌, ap, Err}
-use Rattle.pls_top.specs.Answer.{TooLongExactly, BadInstanceExactly, WritesDueText, most_bytes, due_text}
+use Rattle.pls_top.specs.Answer.{TooLongExactly, BadInstanceExactly, WritesDueText, most_bytes, search_moves}
 use Rattle.pls_top.specs.Words.{is_line}
 use Rattle.pls_top.proofs.Endings.{usage_exactly, too_long_exactly, bad_instance_exactly, no_read_fault, write_fault_rose, fault_line_written, due_text_written_of, too_long_written, too_long_due}
+use Rattle.pls_top.proofs.Fronts.{greedy_run-IsSoundRun}
 use Rattle.pls_top.proofs.program.run.Goals as goal
 
 pub returns-in-Ok-clause-usage : goal.returns-in-Ok-clause-usage
@@ -45,3 +46,18 @@ returns-in-Err-TooLong-clause-text g c =
     let line : is_line c.args.words.now ≡ true = search rules in
     too_long_due _ c.args.words.now bytes line (c.in-Err-TooLong.ensures.too_long (ap Err c.in-Err-TooLong.field-0-is) bytes told)
     _ _ _ _ _ c.finish-in-Err-TooLong.ensures.finishes before held
+
+pub returns-then-not-is_line-clause-sound : goal.returns-then-not-is_line-clause-sound
+returns-then-not-is_line-clause-sound g c = λ k. greedy_run-IsSoundRun k search_moves
+
+pub returns-in-Ok-clause-sound : goal.returns-in-Ok-clause-sound
+returns-in-Ok-clause-sound g c = λ k. greedy_run-IsSoundRun k search_moves
+
+pub returns-in-Err-ReadFault-clause-sound : goal.returns-in-Err-ReadFault-clause-sound
+returns-in-Err-ReadFault-clause-sound g c = λ k. greedy_run-IsSoundRun k search_moves
+
+pub returns-in-Err-TooLong-clause-sound : goal.returns-in-Err-TooLong-clause-sound
+returns-in-Err-TooLong-clause-sound g c = λ k. greedy_run-IsSoundRun k search_moves
+
+pub returns-in-Err-Memory-clause-sound : goal.returns-in-Err-Memory-clause-sound
+returns-in-Err-Memory-clause-sound g c = λ k. greedy_run-IsSoundRun k search_moves
