@@ -1,1 +1,6 @@
 mod Worked
+pub mod ListFacts
+pub mod WordFacts
+pub mod TreeFacts
+pub mod BatchFacts
+pub mod Stays

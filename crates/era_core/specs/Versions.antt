@@ -33,8 +33,10 @@ known_links cells r = links_by (known cells r)
 abbrev pub Covers : List Cell → ℕ → Type 0
 Covers cells r = (p : ℕ) → p < 1 + min 39 (known cells r 0 / 4) → is_some (look_up cells r p) ≡ true
 
--- the copy has of its rows at least what the tree at its root is made of, and its rows are that tree's
+-- the copy has words of its rows alone, and at least those that the tree at its root is made of; its rows are that tree's
 pub record IsClosed (rows : ℕ) (c : Copy) : Type 0 where
+  pub within : (i : ℕ) (x : Cell) → get_elem? c.cells i ≡ some x → In x.row c.rows
+  pub placed : (i : ℕ) (x : Cell) → get_elem? c.cells i ≡ some x → x.place < 40
   pub covers : (r : ℕ) → In r c.rows → Covers c.cells r
   pub is_tree : c.rows ≡ tree (known_links c.cells) rows c.root
 
