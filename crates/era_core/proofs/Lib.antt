@@ -4,3 +4,4 @@ pub mod WordFacts
 pub mod TreeFacts
 pub mod BatchFacts
 pub mod Stays
+pub mod Keeps

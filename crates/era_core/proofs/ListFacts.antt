@@ -55,6 +55,11 @@ pub total-le_total : {A : Type 0} (f g : A → ℕ) (l : List A) → ((a : A) �
 total-le_total f g [] le = omega arith
 total-le_total f g (x ∷ xs) le = let one = le x in let rest = total-le_total f g xs le in omega arith
 
+-- a sum of sums
+pub total-add : {A : Type 0} (f g h : A → ℕ) (l : List A) → ((a : A) → h a ≡ f a + g a) → total h l ≡ total f l + total g l
+total-add f g h [] parts = omega arith
+total-add f g h (x ∷ xs) parts = let one = parts x in let rest = total-add f g h xs parts in omega arith
+
 module _ {A : Type 0} where
   -- an element of a list in which one place was written
   pub at_set : (l : List A) (i j : ℕ) (a b : A) → get_elem? (set l i a) j ≡ some b → ((j ≡ i) × (a ≡ b)) ⊎ ((j ≢ i) × (get_elem? l j ≡ some b))
