@@ -3,5 +3,6 @@ pub mod ListFacts
 pub mod WordFacts
 pub mod TreeFacts
 pub mod BatchFacts
+pub mod NumberFacts
 pub mod Stays
 pub mod Keeps

@@ -1,16 +1,15 @@
 -- A step that leaves all that other passes can read: the root, their reservations, and the words of live and retired rows.
 use Rattle.std.proofs.Common.{◌≡◌, ◌≢◌, ℕ, ◌+◌, ◌*◌, ◌/◌, ◌%◌, ◌^◌, ◌<◌, ◌≤◌, ◌⊎◌, ⊎_elim, inl, inr, false, Option, Some, None, List, length, set, slice_index, refl, sym, ap, subst, ◌∙◌, arith}
-use Rattle.std.proofs.lemmas.Bool.{cases_eq}
-use Rattle.std.proofs.lemmas.Option.{same_Some}
 use Rattle.era_core.specs.Lists.{times, In, total}
 use Rattle.era_core.specs.Words.{version, root_row, words_len, reservation, cell, tree_at, live}
 use Rattle.era_core.specs.Views.{Batch, View, rows_in, versions_of, late, held, clears}
 use Rattle.era_core.specs.Versions.{Cell, Copy, IsClosed, Stands}
 use Rattle.era_core.specs.Sound.{Scans, owned, IsKept, IsPinned, Fits, Sound}
-use Rattle.era_core.proofs.ListFacts.{times-append, total-set, total-le_total, at_set, set_here, set_else}
+use Rattle.era_core.proofs.ListFacts.{times-append, total-set, total-le_total, at_set, set_here}
 use Rattle.era_core.proofs.BatchFacts.{times-late-le}
 use Rattle.era_core.proofs.TreeFacts.{tree_stays}
-use mathlib.Core.Option.{some, some-injective}
+use Rattle.era_core.proofs.NumberFacts.{IsApart, apart_still, none_before}
+use mathlib.Core.Option.{some}
 use lib.ListN.{get_elem?}
 
 module _ (passes rows : ℕ) where
@@ -105,27 +104,6 @@ module _ (passes rows : ℕ) where
     at_new : (j : ℕ) (u : View) → get_elem? (set vs i w) j ≡ some u → ((j ≡ i) × (w ≡ u)) ⊎ ((j ≢ i) × (get_elem? vs j ≡ some u))
     at_new j u there = at_set vs i j w u there
 
-    apart_new : (a b : ℕ) (x y : View) (m : ℕ) → get_elem? (set vs i w) a ≡ some x → get_elem? (set vs i w) b ≡ some y → x.number ≡ Some m → y.number ≡ Some m → a ≡ b
-    apart_new a b x y m xa yb xm ym =
-        ⊎_elim
-        (λ x_new. ⊎_elim
-            (λ y_new. x_new.0 ∙ sym y_new.0)
-            (λ y_old. x_new.0 ∙ sound.apart i b v y m at y_old.1 (leaves.before ∙ sym leaves.number ∙ ap (λ (u : View). u.number) x_new.1 ∙ xm) ym)
-            (at_new b y yb))
-        (λ x_old. ⊎_elim
-            (λ y_new. sound.apart a i x v m x_old.1 at xm (leaves.before ∙ sym leaves.number ∙ ap (λ (u : View). u.number) y_new.1 ∙ ym) ∙ sym y_new.0)
-            (λ y_old. sound.apart a b x y m x_old.1 y_old.1 xm ym)
-            (at_new b y yb))
-        (at_new a x xa)
-
-    -- a pass without a view has none before the step either
-    none_before : (m : ℕ) → ((j : ℕ) (u : View) → get_elem? (set vs i w) j ≡ some u → u.number ≢ Some m) → (j : ℕ) (u : View) → get_elem? vs j ≡ some u → u.number ≢ Some m
-    none_before m none j u there is =
-        ⊎_elim
-        (λ e. none i w (set_here vs i v w at) (leaves.number ∙ sym leaves.before ∙ ap (λ (x : View). x.number) (some-injective v u (sym at ∙ ap (λ z. get_elem? vs z) (sym e) ∙ there)) ∙ is))
-        (λ apart. none j u (set_else vs i j w apart ∙ there) is)
-        (cases_eq j i)
-
     -- the step keeps what is sound, where the new view fits, and fresh rows come and go with their owners
     pub stays : IsOldPin
         → Fits passes rows us (set vs i w) cs w
@@ -150,9 +128,10 @@ module _ (passes rows : ℕ) where
               let c : times x (rows_in w.retired) ≡ times x (rows_in v.retired) = ap (λ batches. times x (rows_in batches)) leaves.retired in
               omega (arith, sound.places x, owners x);
           each = λ j u there. ⊎_elim (λ new. subst (λ (x : View). Fits passes rows us (set vs i w) cs x) new.1 fits) (λ was. fits_same j u was.0 was.1) (at_new j u there);
-          apart = apart_new;
+          apart = apart_still vs i k v w at leaves.before leaves.number sound.apart;
           silent = λ m pass none.
-              leaves.others m pass (λ e. none i w here (leaves.number ∙ ap Some (sym e))) ∙ sound.silent m pass (none_before m none);
+              leaves.others m pass (λ e. none i w here (leaves.number ∙ ap Some (sym e)))
+              ∙ sound.silent m pass (none_before vs i k v w at leaves.before leaves.number m none);
           scans = λ a b x y xa yb.
               ⊎_elim
               (λ y_new. subst (λ (z : View). Scans x z) y_new.1 (scans a x xa))
