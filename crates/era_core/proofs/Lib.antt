@@ -6,3 +6,4 @@ pub mod BatchFacts
 pub mod NumberFacts
 pub mod Stays
 pub mod Keeps
+pub mod Frees
