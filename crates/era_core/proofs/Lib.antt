@@ -7,3 +7,4 @@ pub mod NumberFacts
 pub mod Stays
 pub mod Keeps
 pub mod Frees
+pub mod Publishes
