@@ -8,3 +8,5 @@ pub mod Stays
 pub mod Keeps
 pub mod Frees
 pub mod Publishes
+pub mod CopyFacts
+pub mod Starts

@@ -1,5 +1,5 @@
 -- The machine: its words and one view for each pass, the ten events, and what a list of events leaves.
-use Rattle.std.specs.Prelude.{◌≡◌, ℕ, zero, suc, ◌+◌, ◌-◌, ◌/◌, ◌^◌, ◌≤◌, Bool, true, false, ◌&&◌, ◌||◌, nat_lt, nat_le, ◌==◌, if◌then◌else◌, Option, Some, None, is_none, is_some, option_map, List, [], ◌∷◌, ◌++◌, length, slice_index, slice_set, slice_get}
+use Rattle.std.specs.Prelude.{◌≡◌, ℕ, zero, suc, ◌+◌, ◌-◌, ◌/◌, ◌^◌, ◌<◌, ◌≤◌, Bool, true, false, ◌&&◌, ◌||◌, nat_lt, nat_le, ◌==◌, if◌then◌else◌, Option, Some, None, is_none, is_some, option_map, List, [], ◌∷◌, ◌++◌, length, slice_index, slice_set, slice_get}
 use Rattle.std.specs.List.{list_all, list_any}
 use Rattle.era_core.specs.Lists.{is_in, all_different, In}
 use Rattle.era_core.specs.Words.{root_word, version, root_row, reservation_at, owner_at, cell_at, reservation, owner, cell, links, tree_at, live, start_words}
@@ -165,3 +165,11 @@ first_refused (e ∷ es) m = if allows m e then option_map suc (first_refused es
 
 abbrev pub start_copies : ℕ → ℕ → List Copy
 start_copies rows passes = copy_at passes rows (start_words passes rows) 0 ∷ []
+
+-- the machine with these versions is sound, its views stand in the order of their passes, and each version has all words of its rows
+pub record IsSound (m : Machine) (cs : List Copy) : Type 0 where
+  pub few : m.rows ≤ 262144
+  pub counted : length m.views ≡ m.passes
+  pub ordered : (k : ℕ) (v : View) → get_elem? m.views k ≡ some v → v.number ≡ Some k
+  pub sound : Sound m.passes m.rows m.words m.views cs
+  pub whole : (n : ℕ) (c : Copy) → get_elem? cs n ≡ some c → (r p : ℕ) → In r c.rows → p < 40 → is_some (look_up c.cells r p) ≡ true
