@@ -10,3 +10,4 @@ pub mod Frees
 pub mod Publishes
 pub mod CopyFacts
 pub mod Starts
+pub mod Runs

@@ -1,0 +1,116 @@
+-- Every event keeps a machine sound, so every schedule leaves a sound one.
+use Rattle.std.proofs.Common.{◌≡◌, ◌≢◌, ℕ, zero, suc, ◌+◌, ◌-◌, ◌*◌, ◌/◌, ◌%◌, ◌^◌, ◌<◌, ◌≤◌, ◌⊎◌, ⊎_elim, inl, inr, Bool, true, false, cond, eqb, ltb, leb, Option, Some, None, List, [], ◌∷◌, ◌++◌, length, set, slice_index, refl, sym, ap, subst, ◌∙◌, arith, length-set}
+use Rattle.std.specs.Prelude.{◌&&◌, ◌||◌, is_none, is_some, slice_get}
+use Rattle.std.specs.List.{list_all, list_any}
+use Rattle.std.proofs.lemmas.Bool.{and_parts, or_cases, eqb-true, ltb-true, false≢true}
+use Rattle.std.proofs.lemmas.Option.{same_Some, none-some}
+use Rattle.era_core.specs.Lists.{times, In, is_in, all_different}
+use Rattle.era_core.specs.Words.{root_word, version, root_row, reservation_at, owner_at, reservation, owner, cell, tree_at}
+use Rattle.era_core.specs.Views.{View, clears, taking, freeing, publishing}
+use Rattle.era_core.specs.Versions.{Copy, copy_at, look_up}
+use Rattle.era_core.specs.Sound.{Sound}
+use Rattle.era_core.specs.Machine.{Machine, IsSound, start, start_copies, pass_of, may, may_publish, is_new_tree, are_linked, finds_pinned, words_announced, words_published, view_published, words_after, view_after, versions_after, allows_at, allows, after_at, after, copies_at, copies_after, play, copies}
+use Rattle.era_core.specs.declared.event.Event.{Event}
+use Rattle.era_core.specs.declared.event.Event.TheVariants.{Note, Announce, Pin, Read, Take, Write, Publish, Unpin, Look, Free}
+use Rattle.era_core.proofs.ListFacts.{in_cases, at_set, at_push, set_again}
+use Rattle.era_core.proofs.CopyFacts.{copy_whole, copy_stands, copy_closed}
+use Rattle.era_core.proofs.Keeps.{reads, notes, announces, pins, takes, writes, unpins, looks}
+use Rattle.era_core.proofs.Frees.{frees_fresh, frees_retired}
+use Rattle.era_core.proofs.Publishes.{publishes}
+use Rattle.era_core.proofs.Starts.{starts}
+use mathlib.Core.Option.{some}
+use lib.ListN.{get_elem?}
+
+pub none_from : {A : Type 0} (o : Option A) → is_none o ≡ true → o ≡ None
+none_from None e = refl
+none_from (Some x) e = absurd (false≢true e)
+
+pub some_from : {A : Type 0} (o : Option A) → is_some o ≡ true → (x : A) × (o ≡ Some x)
+some_from None e = absurd (false≢true e)
+some_from (Some x) e = (x, refl)
+
+-- what a list passes, each of its rows passes
+pub list_all-in : (test : ℕ → Bool) (xs : List ℕ) (x : ℕ) → list_all test xs ≡ true → In x xs → test x ≡ true
+list_all-in test [] x all here = absurd (omega arith)
+list_all-in test (y ∷ ys) x all here =
+    let both = and_parts (test y) (list_all test ys) all in
+    ⊎_elim (λ e. ap test e ∙ both.0) (λ later. list_all-in test ys x both.1 later) (in_cases x y ys here)
+
+pub different_once : (xs : List ℕ) → all_different xs ≡ true → (x : ℕ) → times x xs ≤ 1
+different_once xs all x = once (times x xs) (λ here. eqb-true (times x xs) 1 (list_all-in (λ y. eqb (times y xs) 1) xs x all here))
+  where
+    once : (n : ℕ) → (0 < n → n ≡ 1) → n ≤ 1
+    once zero one = omega arith
+    once (suc n) one = let e = one (omega arith) in omega arith
+
+pub at_slice_get : {A : Type 0} (xs : List A) (i : ℕ) (x : A) → slice_get xs i ≡ Some x → get_elem? xs i ≡ some x
+at_slice_get [] i x there = absurd (none-some x there)
+at_slice_get (y ∷ ys) zero x there = ap some (same_Some y x there)
+at_slice_get (y ∷ ys) (suc i) x there = at_slice_get ys i x there
+
+module _ (passes rows : ℕ) (few : rows ≤ 262144) (ws : List ℕ) (vs : List View) (cs : List Copy) (sound : Sound passes rows ws vs cs) where
+  announce_as : (k : ℕ) (v : View) (o : Option ℕ) → get_elem? vs k ≡ some v → v.number ≡ Some k → v.noted ≡ o → is_some o ≡ true → reservation passes rows ws k ≡ 0
+      → Sound passes rows (words_announced passes rows ws k o) (set vs k v) cs
+  announce_as k v None at mine noted is_noted none = absurd (false≢true is_noted)
+  announce_as k v (Some n) at mine noted is_noted none = announces passes rows ws vs cs sound k k v at mine n noted none
+
+  take_as : (k r : ℕ) (v : View) (free : Bool) → get_elem? vs k ≡ some v → v.number ≡ Some k → r < rows → eqb (owner passes rows ws r) 0 ≡ free
+      → Sound passes rows (cond free (set ws (owner_at passes rows r) (k + 1)) ws) (set vs k (cond free (taking r v) v)) cs
+  take_as k r v true at mine row free = takes passes rows ws vs cs sound k k v at mine r (k + 1) row (omega arith) (eqb-true (owner passes rows ws r) 0 free)
+  take_as k r v false at mine row free = subst (λ (us : List View). Sound passes rows ws us cs) (sym (set_again vs k v at)) sound
+
+  publish_as : (k q : ℕ) (v : View) (o : Option (ℕ × ℕ)) (found : Bool) → get_elem? vs k ≡ some v → v.number ≡ Some k → v.pinned ≡ o → may_publish passes rows ws v q o ≡ true
+      → finds_pinned passes rows ws o ≡ found
+      → Sound passes rows (cond found (words_published passes rows ws q o) ws) (set vs k (cond found (view_published passes rows ws v q o) v)) (cond found (cs ++ copy_at passes rows ws q ∷ []) cs)
+  publish_as k q v None found at mine pinned ok is = absurd (false≢true ok)
+  publish_as k q v (Some pin) false at mine pinned ok is = subst (λ (us : List View). Sound passes rows ws us cs) (sym (set_again vs k v at)) sound
+  publish_as k q v (Some pin) true at mine pinned ok is =
+      let old : List ℕ = tree_at passes rows ws pin.1 in
+      let new : List ℕ = tree_at passes rows ws q in
+      let a = and_parts (ltb pin.0 (2 ^ 40 - 1) && ltb q rows && is_in q v.fresh) (is_new_tree passes rows ws v.fresh old new) ok in
+      let b = and_parts (ltb pin.0 (2 ^ 40 - 1) && ltb q rows) (is_in q v.fresh) a.0 in
+      let c = and_parts (are_linked passes rows ws new && all_different new) (list_all (λ x. is_in x v.fresh || is_in x old) new) a.1 in
+      let d = and_parts (are_linked passes rows ws new) (all_different new) c.0 in
+      publishes passes rows ws vs cs sound k k v at mine pin.0 pin.1 q pinned (eqb-true (slice_index ws 0) (root_word pin.0 pin.1) is) (omega arith)
+      (ltb-true 0 (times q v.fresh) b.1)
+      (different_once new d.1)
+      (λ x here.
+          ⊎_elim
+          (λ fresh. inl (ltb-true 0 (times x v.fresh) fresh))
+          (λ kept. inr (ltb-true 0 (times x old) kept))
+          (or_cases (is_in x v.fresh) (is_in x old) (list_all-in (λ y. is_in y v.fresh || is_in y old) new x c.1 here)))
+      (copy_at passes rows ws q) refl refl (copy_stands passes rows ws q) (copy_closed passes rows ws q)
+
+  -- each event that is allowed keeps what is sound
+  pub event_sound : (e : Event) (v : View) → get_elem? vs (pass_of e) ≡ some v → v.number ≡ Some (pass_of e) → may passes rows ws v e ≡ true
+      → Sound passes rows (words_after passes rows ws v e) (set vs (pass_of e) (view_after passes rows ws v e)) (versions_after passes rows ws v cs e)
+  event_sound (Note k) v at mine ok =
+      let both = and_parts (is_none v.pinned) (eqb (reservation passes rows ws k) 0) ok in
+      notes passes rows ws vs cs sound k k v at mine (none_from v.pinned both.0) (eqb-true (reservation passes rows ws k) 0 both.1)
+  event_sound (Announce k) v at mine ok =
+      let both = and_parts (is_some v.noted) (eqb (reservation passes rows ws k) 0) ok in
+      announce_as k v v.noted at mine refl both.0 (eqb-true (reservation passes rows ws k) 0 both.1)
+  event_sound (Pin k) v at mine ok =
+      let both = and_parts (is_none v.pinned) (ltb 0 (reservation passes rows ws k)) ok in
+      pins passes rows ws vs cs sound k k v at mine (none_from v.pinned both.0) (ltb-true 0 (reservation passes rows ws k) both.1)
+  event_sound (Read k r p) v at mine ok = reads passes rows ws vs cs sound k k v at mine (cell passes rows ws r p)
+  event_sound (Take k r) v at mine ok = take_as k r v (eqb (owner passes rows ws r) 0) at mine (ltb-true r rows ok) refl
+  event_sound (Write k r p w) v at mine ok =
+      let a = and_parts (ltb r rows && ltb p 40) (is_in r v.fresh) ok in
+      let b = and_parts (ltb r rows) (ltb p 40) a.0 in
+      writes passes rows ws vs cs sound k k v at mine r p w (ltb-true p 40 b.1) (ltb-true 0 (times r v.fresh) a.1)
+  event_sound (Publish k q) v at mine ok = publish_as k q v v.pinned (finds_pinned passes rows ws v.pinned) at mine refl ok refl
+  event_sound (Unpin k) v at mine ok = let pin = some_from v.pinned ok in unpins passes rows ws vs cs sound k k v at mine pin.0.0 pin.0.1 pin.1
+  event_sound (Look k j) v at mine ok =
+      let a = and_parts (ltb j passes) (eqb j 0 || eqb j v.scanned) ok in
+      looks passes rows ws vs cs sound k k v at mine j (ltb-true j passes a.0)
+      (⊎_elim (λ e. inl (eqb-true j 0 e)) (λ e. inr (eqb-true j v.scanned e)) (or_cases (eqb j 0) (eqb j v.scanned) a.1))
+  event_sound (Free k r) v at mine ok =
+      let scan : Bool = eqb v.scanned passes && list_any (λ b. is_in r b.1 && clears v.least b.0) v.retired in
+      let a = and_parts (ltb r rows) (is_in r v.fresh || scan) ok in
+      ⊎_elim
+      (λ fresh. frees_fresh passes rows ws vs cs sound k k v at mine r (ltb-true 0 (times r v.fresh) fresh))
+      (λ retired.
+          let b = and_parts (eqb v.scanned passes) (list_any (λ b. is_in r b.1 && clears v.least b.0) v.retired) retired in
+          frees_retired passes rows ws vs cs sound k k v at mine r (eqb-true v.scanned passes b.0) b.1)
+      (or_cases (is_in r v.fresh) scan a.1)
