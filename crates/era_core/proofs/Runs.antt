@@ -4,9 +4,9 @@ use Rattle.std.specs.Prelude.{◌&&◌, ◌||◌, is_none, is_some, slice_get}
 use Rattle.std.specs.List.{list_all, list_any}
 use Rattle.std.proofs.lemmas.Bool.{and_parts, or_cases, eqb-true, ltb-true, false≢true}
 use Rattle.std.proofs.lemmas.Option.{same_Some, none-some}
-use Rattle.era_core.specs.Lists.{times, In, is_in, all_different}
+use Rattle.era_core.specs.Lists.{times, In, is_in, all_different, without}
 use Rattle.era_core.specs.Words.{root_word, version, root_row, reservation_at, owner_at, reservation, owner, cell, tree_at}
-use Rattle.era_core.specs.Views.{View, clears, taking, freeing, publishing}
+use Rattle.era_core.specs.Views.{View, clears, taking, without_row}
 use Rattle.era_core.specs.Versions.{Copy, copy_at, look_up}
 use Rattle.era_core.specs.Sound.{Sound}
 use Rattle.era_core.specs.Machine.{Machine, IsSound, start, start_copies, pass_of, may, may_publish, is_new_tree, are_linked, finds_pinned, words_announced, words_published, view_published, words_after, view_after, versions_after, allows_at, allows, after_at, after, copies_at, copies_after, play, copies}
@@ -114,3 +114,94 @@ module _ (passes rows : ℕ) (few : rows ≤ 262144) (ws : List ℕ) (vs : List 
           let b = and_parts (eqb v.scanned passes) (list_any (λ b. is_in r b.1 && clears v.least b.0) v.retired) retired in
           frees_retired passes rows ws vs cs sound k k v at mine r (eqb-true v.scanned passes b.0) b.1)
       (or_cases (is_in r v.fresh) scan a.1)
+
+cond_number : (b : Bool) (u v : View) → u.number ≡ v.number → (cond b u v).number ≡ v.number
+cond_number true u v same = same
+cond_number false u v same = refl
+
+-- no event changes the number of a view
+pub number_after : (passes rows : ℕ) (ws : List ℕ) (v : View) (e : Event) → (view_after passes rows ws v e).number ≡ v.number
+number_after passes rows ws v (Note k) = refl
+number_after passes rows ws v (Announce k) = refl
+number_after passes rows ws v (Pin k) = refl
+number_after passes rows ws v (Read k r p) = refl
+number_after passes rows ws v (Take k r) = cond_number (eqb (owner passes rows ws r) 0) (taking r v) v refl
+number_after passes rows ws v (Write k r p w) = refl
+number_after passes rows ws v (Publish k q) = cond_number (finds_pinned passes rows ws v.pinned) (view_published passes rows ws v q v.pinned) v (published v.pinned)
+  where
+    published : (o : Option (ℕ × ℕ)) → (view_published passes rows ws v q o).number ≡ v.number
+    published None = refl
+    published (Some pin) = refl
+number_after passes rows ws v (Unpin k) = refl
+number_after passes rows ws v (Look k j) = refl
+number_after passes rows ws v (Free k r) = either (is_in r v.fresh) (record v { fresh = without (r ∷ []) v.fresh }) (record v { retired = without_row r v.retired }) refl refl
+  where
+    either : (b : Bool) (x y : View) → x.number ≡ v.number → y.number ≡ v.number → (cond b x y).number ≡ v.number
+    either true x y a b = a
+    either false x y a b = b
+
+-- each version has all words of its rows
+abbrev pub AreWhole : List Copy → Type 0
+AreWhole cs = (n : ℕ) (c : Copy) → get_elem? cs n ≡ some c → (r p : ℕ) → In r c.rows → p < 40 → is_some (look_up c.cells r p) ≡ true
+
+whole_after : (passes rows : ℕ) (ws : List ℕ) (v : View) (cs : List Copy) (e : Event) → AreWhole cs → AreWhole (versions_after passes rows ws v cs e)
+whole_after passes rows ws v cs (Publish k q) whole = more (finds_pinned passes rows ws v.pinned)
+  where
+    more : (b : Bool) → AreWhole (cond b (cs ++ copy_at passes rows ws q ∷ []) cs)
+    more true n c there r p here place =
+        ⊎_elim
+        (λ was. whole n c was r p here place)
+        (λ last.
+            let P : Copy → Type 0 = λ x. In r x.rows → is_some (look_up x.cells r p) ≡ true in
+            subst P last.1 (λ inside. copy_whole passes rows ws q r p inside place) here)
+        (at_push cs (copy_at passes rows ws q) c n there)
+    more false n c there r p here place = whole n c there r p here place
+whole_after passes rows ws v cs (Note k) whole = whole
+whole_after passes rows ws v cs (Announce k) whole = whole
+whole_after passes rows ws v cs (Pin k) whole = whole
+whole_after passes rows ws v cs (Read k r p) whole = whole
+whole_after passes rows ws v cs (Take k r) whole = whole
+whole_after passes rows ws v cs (Write k r p w) whole = whole
+whole_after passes rows ws v cs (Unpin k) whole = whole
+whole_after passes rows ws v cs (Look k j) whole = whole
+whole_after passes rows ws v cs (Free k r) whole = whole
+
+module _ (m : Machine) (cs : List Copy) (e : Event) (is_sound : IsSound m cs) where
+  step_sound : (v : View) → get_elem? m.views (pass_of e) ≡ some v → may m.passes m.rows m.words v e ≡ true
+      → IsSound (after_at m e (Some v)) (copies_at m cs e (Some v))
+  step_sound v at ok =
+      let mine = is_sound.ordered (pass_of e) v at in
+      let w = view_after m.passes m.rows m.words v e in
+      record {
+        few = is_sound.few;
+        counted = length-set m.views (pass_of e) w ∙ is_sound.counted;
+        ordered = λ k u there.
+            ⊎_elim
+            (λ is_new. sym (ap (λ (x : View). x.number) is_new.1) ∙ number_after m.passes m.rows m.words v e ∙ mine ∙ ap Some (sym is_new.0))
+            (λ was. is_sound.ordered k u was.1)
+            (at_set m.views (pass_of e) k w u there);
+        sound = event_sound m.passes m.rows is_sound.few m.words m.views cs is_sound.sound e v at mine ok;
+        whole = whole_after m.passes m.rows m.words v cs e is_sound.whole;
+      }
+
+  by_view : (o : Option View) → slice_get m.views (pass_of e) ≡ o → allows_at m e o ≡ true → IsSound (after_at m e o) (copies_at m cs e o)
+  by_view None is ok = absurd (false≢true ok)
+  by_view (Some v) is ok = step_sound v (at_slice_get m.views (pass_of e) v is) ok
+
+  by_test : (b : Bool) → allows m e ≡ b
+      → IsSound (cond b (after_at m e (slice_get m.views (pass_of e))) m) (cond b (copies_at m cs e (slice_get m.views (pass_of e))) cs)
+  by_test true ok = by_view (slice_get m.views (pass_of e)) refl ok
+  by_test false refused = is_sound
+
+  -- an event keeps a machine sound, whether it is allowed or not
+  pub after_sound : IsSound (after m e) (copies_after m cs e)
+  after_sound = by_test (allows m e) refl
+
+-- so does a schedule
+pub play_sound : (es : List Event) (m : Machine) (cs : List Copy) → IsSound m cs → IsSound (play es m) (copies es m cs)
+play_sound [] m cs is_sound = is_sound
+play_sound (e ∷ es) m cs is_sound = play_sound es (after m e) (copies_after m cs e) (after_sound m cs e is_sound)
+
+-- every schedule from the start
+pub every_schedule : (rows passes : ℕ) (es : List Event) → 0 < rows → rows ≤ 262144 → IsSound (play es (start rows passes)) (copies es (start rows passes) (start_copies rows passes))
+every_schedule rows passes es some_row few = play_sound es (start rows passes) (start_copies rows passes) (starts passes rows some_row few)
