@@ -11,3 +11,4 @@ pub mod Publishes
 pub mod CopyFacts
 pub mod Starts
 pub mod Runs
+pub mod Laws

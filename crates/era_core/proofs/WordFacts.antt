@@ -8,10 +8,12 @@ run_of-same f g p zero same = refl
 run_of-same f g p (suc n) same =
     ap (λ x. x ∷ run_of f (p + 1) n) (same p (omega arith)) ∙ ap (λ xs. g p ∷ xs) (run_of-same f g (p + 1) n (λ q below. same q (omega arith)))
 
+pub links_by-counted : (f g : ℕ → ℕ) → ((p : ℕ) → p < 1 + min 39 (f 0 / 4) → f p ≡ g p) → links_by f ≡ links_by g
+links_by-counted f g same =
+    run_of-same f g 1 (min 39 (f 0 / 4)) same ∙ ap (λ w. run_of g 1 (min 39 (w / 4))) (same 0 (omega arith))
+
 pub links_by-same : (f g : ℕ → ℕ) → ((p : ℕ) → p < 40 → f p ≡ g p) → links_by f ≡ links_by g
-links_by-same f g same =
-    let first : f 0 ≡ g 0 = same 0 (omega arith) in
-    ap (λ w. run_of f 1 (min 39 (w / 4))) first ∙ run_of-same f g 1 (min 39 (g 0 / 4)) (λ q below. same q (omega arith))
+links_by-same f g same = links_by-counted f g (λ p below. same p (omega arith))
 
 module _ (passes rows : ℕ) where
   -- a store of an owner

@@ -1,7 +1,7 @@
 -- The worked schedules, computed on the definitions.
 use Rattle.std.proofs.Common.{◌≡◌, ℕ, Option, Some, None, List, [], ◌∷◌, ◌++◌, refl}
-use Rattle.era_core.specs.Machine.{play, first_refused}
-use Rattle.era_core.specs.Schedules.{first_publication, whole, too_soon, given_back, pin_of_0, beaten, small, root_of, owners_of, reservations_of, last_read}
+use Rattle.era_core.specs.Machine.{play, first_refused, last_of}
+use Rattle.era_core.specs.Schedules.{first_publication, whole, too_soon, given_back, pin_of_0, beaten, small, root_of, owners_of, reservations_of}
 use Rattle.era_core.specs.declared.event.Event.TheVariants.{Note, Announce, Pin, Read, Take, Write, Publish, Unpin, Look, Free}
 
 whole-allowed : first_refused whole small ≡ None
@@ -16,7 +16,7 @@ whole-owners = refl
 whole-reservations : reservations_of (play whole small) ≡ 0 ∷ 0 ∷ []
 whole-reservations = refl
 
-whole-last : last_read (play whole small) 1 ≡ Some 0
+whole-last : last_of (play whole small) 1 ≡ Some 0
 whole-last = refl
 
 too_soon-refused : first_refused too_soon small ≡ Some 19

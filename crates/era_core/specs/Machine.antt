@@ -1,5 +1,5 @@
 -- The machine: its words and one view for each pass, the ten events, and what a list of events leaves.
-use Rattle.std.specs.Prelude.{◌≡◌, ℕ, zero, suc, ◌+◌, ◌-◌, ◌/◌, ◌^◌, ◌<◌, ◌≤◌, Bool, true, false, ◌&&◌, ◌||◌, nat_lt, nat_le, ◌==◌, if◌then◌else◌, Option, Some, None, is_none, is_some, option_map, List, [], ◌∷◌, ◌++◌, length, slice_index, slice_set, slice_get}
+use Rattle.std.specs.Prelude.{◌≡◌, ℕ, zero, suc, ◌+◌, ◌-◌, ◌/◌, ◌^◌, ◌<◌, ◌≤◌, Bool, true, false, ◌&&◌, ◌||◌, nat_lt, nat_le, ◌==◌, if◌then◌else◌, Option, Some, None, is_none, is_some, option_map, option_and_then, unwrap_or, not, List, [], ◌∷◌, ◌++◌, length, slice_index, slice_set, slice_get}
 use Rattle.std.specs.List.{list_all, list_any}
 use Rattle.era_core.specs.Lists.{is_in, all_different, In}
 use Rattle.era_core.specs.Words.{root_word, version, root_row, reservation_at, owner_at, cell_at, reservation, owner, cell, links, tree_at, live, start_words}
@@ -165,6 +165,37 @@ first_refused (e ∷ es) m = if allows m e then option_map suc (first_refused es
 
 abbrev pub start_copies : ℕ → ℕ → List Copy
 start_copies rows passes = copy_at passes rows (start_words passes rows) 0 ∷ []
+
+-- what the words and the views say of a row and of a pass
+abbrev pub owner_of : Machine → ℕ → ℕ
+owner_of m r = owner m.passes m.rows m.words r
+
+abbrev pub cell_of : Machine → ℕ → ℕ → ℕ
+cell_of m r p = cell m.passes m.rows m.words r p
+
+abbrev pub tree_of : Machine → ℕ → List ℕ
+tree_of m r = tree_at m.passes m.rows m.words r
+
+-- the version and the root row that the pass has pinned
+abbrev pub pin_of : Machine → ℕ → Option (ℕ × ℕ)
+pin_of m k = option_and_then (λ (v : View). v.pinned) (slice_get m.views k)
+
+-- the rows that the pass took and has not published
+abbrev pub fresh_of : Machine → ℕ → List ℕ
+fresh_of m k = unwrap_or (option_map (λ (v : View). v.fresh) (slice_get m.views k)) []
+
+-- the word that the pass read last
+abbrev pub last_of : Machine → ℕ → Option ℕ
+last_of m k = option_and_then (λ (v : View). v.last) (slice_get m.views k)
+
+-- the word of the row at the place in the copy of version n
+abbrev pub published_word : List Copy → ℕ → ℕ → ℕ → Option ℕ
+published_word cs n r p = option_and_then (λ (c : Copy). look_up c.cells r p) (slice_get cs n)
+
+-- pass k does not let go of its version
+abbrev pub keeps_pin : ℕ → Event → Bool
+keeps_pin k (Unpin j) = not (j == k)
+keeps_pin k e = true
 
 -- the machine with these versions is sound, its views stand in the order of their passes, and each version has all words of its rows
 pub record IsSound (m : Machine) (cs : List Copy) : Type 0 where

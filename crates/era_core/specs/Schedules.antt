@@ -40,10 +40,6 @@ owners_of m = map (owner 2 4 m.words) (0 ∷ 1 ∷ 2 ∷ 3 ∷ [])
 abbrev pub reservations_of : Machine → List ℕ
 reservations_of m = map (reservation 2 4 m.words) (0 ∷ 1 ∷ [])
 
--- the word that a pass read last
-abbrev pub last_read : Machine → ℕ → Option ℕ
-last_read m k = option_and_then (λ (v : View). v.last) (slice_get m.views k)
-
 -- a fresh row that is given back, while the reservation stays
 abbrev pub given_back : List Event
 given_back = Note 1 ∷ Note 0 ∷ Announce 0 ∷ Pin 0 ∷ Take 0 1 ∷ Write 0 1 0 0 ∷ Free 0 1 ∷ []
