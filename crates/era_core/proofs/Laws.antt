@@ -66,7 +66,7 @@ shared_owned passes rows ws vs cs sound x shared free =
     let none = owned_free passes rows ws x free in
     omega (arith, sound.places x)
 
-slice_get_at : {A : Type 0} (xs : List A) (i : ℕ) (x : A) → get_elem? xs i ≡ some x → slice_get xs i ≡ Some x
+pub slice_get_at : {A : Type 0} (xs : List A) (i : ℕ) (x : A) → get_elem? xs i ≡ some x → slice_get xs i ≡ Some x
 slice_get_at [] i x there = absurd (some-ne-none x (sym there))
 slice_get_at (y ∷ ys) zero x there = ap Some (some-injective y x there)
 slice_get_at (y ∷ ys) (suc i) x there = slice_get_at ys i x there
@@ -95,7 +95,7 @@ reader m cs is_sound k n root e = by_view (slice_get m.views k) refl e
           rows_are = pinned_tree m.passes m.rows m.words m.views cs is_sound.sound k n root v.retired pin there.0 there.1;
         }
 
-slice_get_set : {A : Type 0} (xs : List A) (i : ℕ) (x y : A) → slice_get xs i ≡ Some x → slice_get (set xs i y) i ≡ Some y
+pub slice_get_set : {A : Type 0} (xs : List A) (i : ℕ) (x y : A) → slice_get xs i ≡ Some x → slice_get (set xs i y) i ≡ Some y
 slice_get_set [] i x y there = absurd (none-some x there)
 slice_get_set (z ∷ zs) zero x y there = refl
 slice_get_set (z ∷ zs) (suc i) x y there = slice_get_set zs i x y there

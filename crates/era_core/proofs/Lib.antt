@@ -12,3 +12,4 @@ pub mod CopyFacts
 pub mod Starts
 pub mod Runs
 pub mod Laws
+pub mod Held

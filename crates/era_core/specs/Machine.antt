@@ -1,5 +1,5 @@
 -- The machine: its words and one view for each pass, the ten events, and what a list of events leaves.
-use Rattle.std.specs.Prelude.{◌≡◌, ℕ, zero, suc, ◌+◌, ◌-◌, ◌/◌, ◌^◌, ◌<◌, ◌≤◌, Bool, true, false, ◌&&◌, ◌||◌, nat_lt, nat_le, ◌==◌, if◌then◌else◌, Option, Some, None, is_none, is_some, option_map, option_and_then, unwrap_or, not, List, [], ◌∷◌, ◌++◌, length, slice_index, slice_set, slice_get}
+use Rattle.std.specs.Prelude.{◌≡◌, ◌≢◌, ℕ, zero, suc, ◌+◌, ◌-◌, ◌/◌, ◌^◌, ◌<◌, ◌≤◌, Bool, true, false, ◌&&◌, ◌||◌, nat_lt, nat_le, ◌==◌, if◌then◌else◌, Option, Some, None, is_none, is_some, option_map, option_and_then, unwrap_or, not, List, [], ◌∷◌, ◌++◌, length, slice_index, slice_set, slice_get}
 use Rattle.std.specs.List.{list_all, list_any}
 use Rattle.era_core.specs.Lists.{is_in, all_different, In}
 use Rattle.era_core.specs.Words.{root_word, version, root_row, reservation_at, owner_at, cell_at, reservation, owner, cell, links, tree_at, live, start_words}
@@ -204,3 +204,9 @@ pub record IsSound (m : Machine) (cs : List Copy) : Type 0 where
   pub ordered : (k : ℕ) (v : View) → get_elem? m.views k ≡ some v → v.number ≡ Some k
   pub sound : Sound m.passes m.rows m.words m.views cs
   pub whole : (n : ℕ) (c : Copy) → get_elem? cs n ≡ some c → (r p : ℕ) → In r c.rows → p < 40 → is_some (look_up c.cells r p) ≡ true
+
+-- the version with this root row stands later as it did: the same rows, none of them free, with the same words
+pub record VersionStands (m later : Machine) (root : ℕ) : Type 0 where
+  pub tree : tree_of later root ≡ tree_of m root
+  pub owned : (r : ℕ) → In r (tree_of m root) → owner_of later r ≢ 0
+  pub words : (r p : ℕ) → In r (tree_of m root) → p < 40 → cell_of later r p ≡ cell_of m r p
