@@ -18,8 +18,8 @@ times-without_gone x gone (y ∷ ys) here =
     let rest = times-without_gone x gone ys here in
     ⊎_elim
     (λ e.
-        let out : is_in y gone ≡ true = ap (λ v. is_in v gone) (sym e) ∙ lt-ltb 0 (times x gone) here in
-        ap (λ b. times x (cond (not b) (y ∷ without gone ys) (without gone ys))) out ∙ rest)
+    let out : is_in y gone ≡ true = ap (λ v. is_in v gone) (sym e) ∙ lt-ltb 0 (times x gone) here in
+    ap (λ b. times x (cond (not b) (y ∷ without gone ys) (without gone ys))) out ∙ rest)
     (λ apart. skip x y (not (is_in y gone)) (without gone ys) apart ∙ rest)
     (cases_eq x y)
 
@@ -29,8 +29,8 @@ times-without_kept x gone (y ∷ ys) stays =
     let rest = times-without_kept x gone ys stays in
     ⊎_elim
     (λ e.
-        let kept : is_in y gone ≡ false = ap (λ v. is_in v gone) (sym e) ∙ le-ltb 0 (times x gone) (omega arith) in
-        ap (λ b. times x (cond (not b) (y ∷ without gone ys) (without gone ys))) kept ∙ ap (λ n. cond (nat_eq x y) 1 0 + n) rest)
+    let kept : is_in y gone ≡ false = ap (λ v. is_in v gone) (sym e) ∙ le-ltb 0 (times x gone) (omega arith) in
+    ap (λ b. times x (cond (not b) (y ∷ without gone ys) (without gone ys))) kept ∙ ap (λ n. cond (nat_eq x y) 1 0 + n) rest)
     (λ apart. skip x y (not (is_in y gone)) (without gone ys) apart ∙ rest ∙ sym (times-tail x y ys apart))
     (cases_eq x y)
 
@@ -137,14 +137,14 @@ late_cleared r n least (b ∷ bs) once cleared late_row =
     let one = part r (leb n b.0) b.1 in
     ⊎_elim
     (λ first.
-        let both = and_parts (is_in r b.1) (clears least b.0) first in
-        let here : In r b.1 = ltb-true 0 (times r b.1) both.0 in
-        let is_late : In r (cond (leb n b.0) b.1 []) = omega arith in
-        (b.0, in_head b.0 (versions_of bs), leb-true n b.0 (late_only r (leb n b.0) b.1 is_late), both.1))
+    let both = and_parts (is_in r b.1) (clears least b.0) first in
+    let here : In r b.1 = ltb-true 0 (times r b.1) both.0 in
+    let is_late : In r (cond (leb n b.0) b.1 []) = omega arith in
+    (b.0, in_head b.0 (versions_of bs), leb-true n b.0 (late_only r (leb n b.0) b.1 is_late), both.1))
     (λ later.
-        let there = cleared_there r least bs later in
-        let rest = late_cleared r n least bs (omega arith) later (omega arith) in
-        (rest.0, in_tail rest.0 b.0 (versions_of bs) rest.1, rest.2, rest.3))
+    let there = cleared_there r least bs later in
+    let rest = late_cleared r n least bs (omega arith) later (omega arith) in
+    (rest.0, in_tail rest.0 b.0 (versions_of bs) rest.1, rest.2, rest.3))
     (or_cases (is_in r b.1 && clears least b.0) (list_any (λ x. is_in r x.1 && clears least x.0) bs) cleared)
   where
     late_only : (x : ℕ) (t : Bool) (xs : List ℕ) → In x (cond t xs []) → t ≡ true

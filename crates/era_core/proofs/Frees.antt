@@ -47,7 +47,9 @@ module _ (passes rows : ℕ) where
           root = owner_keeps_root passes rows ws r 0;
           others = λ j pass apart. owner_keeps_reservation passes rows ws r 0 j pass;
           cells = λ x p shared place. owner_keeps_cell passes rows ws r 0 x p row;
-          before = mine; number = mine; retired = refl;
+          before = mine;
+          number = mine;
+          retired = refl;
         } in
         let same = version_same passes rows ws us vs cs sound i k v w at leaves in
         let kept : (j : ℕ) → v.number ≡ Some j → reservation passes rows us j ≡ reservation passes rows ws j = λ j is. owner_keeps_reservation passes rows ws r 0 j (own.numbered j is) in
@@ -66,16 +68,17 @@ module _ (passes rows : ℕ) where
           noted = λ m is. omega (arith, own.noted m is);
           newer = own.newer;
           announced = λ j m is loose reserves. own.announced j m is loose (sym (kept j is) ∙ reserves);
-          settled = own.settled; scan = own.scan;
+          settled = own.settled;
+          scan = own.scan;
         })
         (λ j u there. ⊎_elim (λ new. subst (λ (z : View). Scans z w) new.1 (sound.scans i i v v at at)) (λ was. sound.scans j i u v was.1 at) (at_set vs i j w u there))
         (λ x. ⊎_elim
-            (λ e. subst (λ (y : ℕ). times y w.fresh + owned passes rows ws y ≡ times y v.fresh + owned passes rows us y) (sym e) (omega arith))
-            (λ apart.
-                let one = times-without_kept x (r ∷ []) v.fresh (other_row r x apart) in
-                let e = owned_same passes rows ws us x (λ inside. owner_keeps_owner passes rows ws r 0 x apart) in
-                omega arith)
-            (cases_eq x r))
+        (λ e. subst (λ (y : ℕ). times y w.fresh + owned passes rows ws y ≡ times y v.fresh + owned passes rows us y) (sym e) (omega arith))
+        (λ apart.
+        let one = times-without_kept x (r ∷ []) v.fresh (other_row r x apart) in
+        let e = owned_same passes rows ws us x (λ inside. owner_keeps_owner passes rows ws r 0 x apart) in
+        omega arith)
+        (cases_eq x r))
 
     pub frees_fresh : (r : ℕ) → In r v.fresh → Sound passes rows (set ws (owner_at passes rows r) 0) (set vs i (freeing r v)) cs
     frees_fresh r here =
@@ -200,13 +203,13 @@ module _ (passes rows : ℕ) where
           let fewer = λ (c : ℕ) (here : In c (versions_of (without_row r v.retired))). versions_of-without_row c r v.retired here in
           ⊎_elim
           (λ y_new. ⊎_elim
-              (λ x_new. subst (λ (z : View). Scans x z) y_new.1 (subst (λ (z : View). Scans z w) x_new.1 (λ m n q c is pinned seen here low. sound.scans i i v v at at m n q c is pinned seen (fewer c here) low)))
-              (λ x_old. subst (λ (z : View). Scans x z) y_new.1 (λ m n q c is pinned seen here low. sound.scans a i x v x_old.1 at m n q c is pinned seen (fewer c here) low))
-              (at_set vs i a w x xa))
+          (λ x_new. subst (λ (z : View). Scans x z) y_new.1 (subst (λ (z : View). Scans z w) x_new.1 (λ m n q c is pinned seen here low. sound.scans i i v v at at m n q c is pinned seen (fewer c here) low)))
+          (λ x_old. subst (λ (z : View). Scans x z) y_new.1 (λ m n q c is pinned seen here low. sound.scans a i x v x_old.1 at m n q c is pinned seen (fewer c here) low))
+          (at_set vs i a w x xa))
           (λ y_old. ⊎_elim
-              (λ x_new. subst (λ (z : View). Scans z y) x_new.1 (sound.scans i b v y at y_old.1))
-              (λ x_old. sound.scans a b x y x_old.1 y_old.1)
-              (at_set vs i a w x xa))
+          (λ x_new. subst (λ (z : View). Scans z y) x_new.1 (sound.scans i b v y at y_old.1))
+          (λ x_old. sound.scans a b x y x_old.1 y_old.1)
+          (at_set vs i a w x xa))
           (at_set vs i b w y yb)
 
       frees_retired_as : Sound passes rows us (set vs i w) cs
@@ -223,19 +226,19 @@ module _ (passes rows : ℕ) where
             let after = times-append x v.fresh (rows_in (without_row r v.retired)) in
             ⊎_elim
             (λ e.
-                let F : ℕ → Type 0 = λ y. times y v.fresh ≡ 0 in
-                let fresh = subst F (sym e) not_fresh in
-                let G : ℕ → Type 0 = λ y. times y (rows_in (without_row r v.retired)) ≡ 0 in
-                let left = subst G (sym e) (times-rows_in-row_gone r v.retired) in
-                let H : ℕ → Type 0 = λ y. owned passes rows us y ≡ 0 in
-                let now = subst H (sym e) (owned_free passes rows us r (owner_stored passes rows ws r 0 sound.long row)) in
-                let I : ℕ → Type 0 = λ y. In y (rows_in v.retired) in
-                let here = subst I (sym e) retired_here in
-                omega (arith, sound.places x, owned_most passes rows ws x))
+            let F : ℕ → Type 0 = λ y. times y v.fresh ≡ 0 in
+            let fresh = subst F (sym e) not_fresh in
+            let G : ℕ → Type 0 = λ y. times y (rows_in (without_row r v.retired)) ≡ 0 in
+            let left = subst G (sym e) (times-rows_in-row_gone r v.retired) in
+            let H : ℕ → Type 0 = λ y. owned passes rows us y ≡ 0 in
+            let now = subst H (sym e) (owned_free passes rows us r (owner_stored passes rows ws r 0 sound.long row)) in
+            let I : ℕ → Type 0 = λ y. In y (rows_in v.retired) in
+            let here = subst I (sym e) retired_here in
+            omega (arith, sound.places x, owned_most passes rows ws x))
             (λ apart.
-                let left = times-rows_in-without_row x r v.retired apart in
-                let e = owned_same passes rows ws us x (λ inside. owner_keeps_owner passes rows ws r 0 x apart) in
-                omega (arith, sound.places x))
+            let left = times-rows_in-without_row x r v.retired apart in
+            let e = owned_same passes rows ws us x (λ inside. owner_keeps_owner passes rows ws r 0 x apart) in
+            omega (arith, sound.places x))
             (cases_eq x r);
         each = λ j u there.
             ⊎_elim

@@ -13,7 +13,7 @@ use Rattle.era_core.specs.declared.event.Event.{Event}
 use Rattle.era_core.specs.declared.event.Event.TheVariants.{Note, Announce, Pin, Read, Take, Write, Publish, Unpin, Look, Free}
 use Rattle.era_core.proofs.ListFacts.{at_longer}
 use Rattle.era_core.proofs.Runs.{none_from, after_sound, play_sound}
-use Rattle.era_core.proofs.Laws.{Reader, reader, slice_get_at, slice_get_set, pinned_owned, pinned_word}
+use Rattle.era_core.proofs.Readers.{Reader, reader, slice_get_at, slice_get_set, pinned_owned, pinned_word}
 use mathlib.Core.Option.{some, some-injective}
 use lib.ListN.{get_elem?}
 
@@ -60,10 +60,10 @@ module _ (k : ℕ) (pin : ℕ × ℕ) where
           let w = view_after m.passes m.rows m.words v e in
           ⊎_elim
           (λ (same : k ≡ pass_of e).
-              let own : v.pinned ≡ Some pin = ap (λ o. option_and_then (λ (x : View). x.pinned) o) (sym is ∙ ap (slice_get m.views) (sym same)) ∙ pinned in
-              let own_keeps : keeps_pin (pass_of e) e ≡ true = ap (λ j. keeps_pin j e) (sym same) ∙ keeps in
-              let after_it = pinned_after m.passes m.rows m.words v pin e own ok own_keeps in
-              ap (λ o. option_and_then (λ (x : View). x.pinned) o) (ap (slice_get (set m.views (pass_of e) w)) same ∙ slice_get_set m.views (pass_of e) v w is) ∙ after_it ∙ own)
+          let own : v.pinned ≡ Some pin = ap (λ o. option_and_then (λ (x : View). x.pinned) o) (sym is ∙ ap (slice_get m.views) (sym same)) ∙ pinned in
+          let own_keeps : keeps_pin (pass_of e) e ≡ true = ap (λ j. keeps_pin j e) (sym same) ∙ keeps in
+          let after_it = pinned_after m.passes m.rows m.words v pin e own ok own_keeps in
+          ap (λ o. option_and_then (λ (x : View). x.pinned) o) (ap (slice_get (set m.views (pass_of e) w)) same ∙ slice_get_set m.views (pass_of e) v w is) ∙ after_it ∙ own)
           (λ apart. ap (λ o. option_and_then (λ (x : View). x.pinned) o) (slice_get_other m.views (pass_of e) k w apart) ∙ pinned)
           (cases_eq k (pass_of e))
 
@@ -123,11 +123,13 @@ version_held m cs is_sound k n root pinned es keeps =
     let one : a.copy ≡ b.copy = some-injective a.copy b.copy (sym still ∙ b.there) in
     let same_tree : tree_of later root ≡ tree_of m root = b.rows_are ∙ ap (λ (c : Copy). c.rows) (sym one) ∙ sym a.rows_are in
     let word : (r p : ℕ) → published_word ds n r p ≡ published_word cs n r p = λ r p.
-        ap (λ o. option_and_then (λ (c : Copy). look_up c.cells r p) o) (slice_get_at ds n a.copy still ∙ sym (slice_get_at cs n a.copy a.there)) in
-    (later_pinned, record {
-      tree = same_tree;
-      owned = λ r here. pinned_owned later ds later_sound k n root later_pinned r (subst (In r) (sym same_tree) here);
-      words = λ r p here place.
-          same_Some (cell_of later r p) (cell_of m r p)
-          (sym (pinned_word later ds later_sound k n root later_pinned r p (subst (In r) (sym same_tree) here) place) ∙ word r p ∙ pinned_word m cs is_sound k n root pinned r p here place);
-    })
+    ap (λ o. option_and_then (λ (c : Copy). look_up c.cells r p) o) (slice_get_at ds n a.copy still ∙ sym (slice_get_at cs n a.copy a.there)) in (
+      later_pinned,
+      record {
+        tree = same_tree;
+        owned = λ r here. pinned_owned later ds later_sound k n root later_pinned r (subst (In r) (sym same_tree) here);
+        words = λ r p here place.
+            same_Some (cell_of later r p) (cell_of m r p)
+            (sym (pinned_word later ds later_sound k n root later_pinned r p (subst (In r) (sym same_tree) here) place) ∙ word r p ∙ pinned_word m cs is_sound k n root pinned r p here place);
+      },
+    )

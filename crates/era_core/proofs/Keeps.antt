@@ -70,7 +70,13 @@ module _ (passes rows : ℕ) where
     -- a step that stores no word
     quiet : (w : View) → w.number ≡ Some k → w.retired ≡ v.retired → LeavesShared passes rows ws ws vs k v w
     quiet w number retired = record {
-      long = refl; root = refl; others = λ j pass apart. refl; cells = λ x p shared place. refl; before = mine; number = number; retired = retired;
+      long = refl;
+      root = refl;
+      others = λ j pass apart. refl;
+      cells = λ x p shared place. refl;
+      before = mine;
+      number = number;
+      retired = retired;
     }
 
     -- what the new view's scan must have seen, of itself and of each other view
@@ -85,9 +91,15 @@ module _ (passes rows : ℕ) where
         stays passes rows ws ws vs cs sound i k v w at leaves
         (λ n r pinned. inl pinned)
         (record {
-          numbered = own.numbered; older = own.older; named = own.named;
+          numbered = own.numbered;
+          older = own.older;
+          named = own.named;
           pin = λ m n r is pinned. pin_same passes rows ws ws vs cs sound i k v w at leaves m n r v.retired refl (own.pin m n r is pinned);
-          noted = own.noted; newer = own.newer; announced = own.announced; settled = own.settled; scan = own.scan;
+          noted = own.noted;
+          newer = own.newer;
+          announced = own.announced;
+          settled = own.settled;
+          scan = own.scan;
         })
         (scans_new w (λ j u there. sound.scans j i u v there at) (sound.scans i i v v at at))
         (λ x. refl)
@@ -99,7 +111,9 @@ module _ (passes rows : ℕ) where
         stays passes rows ws ws vs cs sound i k v w at leaves
         (λ n r pinned. inl pinned)
         (record {
-          numbered = own.numbered; older = own.older; named = own.named;
+          numbered = own.numbered;
+          older = own.older;
+          named = own.named;
           pin = λ m n r is pinned. absurd (none-some (n, r) (sym loose ∙ pinned));
           noted = λ n is. let e = same_Some (version ws) n is in omega arith;
           newer = λ n b is here. let e = same_Some (version ws) n is in let low = own.older b here in omega arith;
@@ -118,7 +132,9 @@ module _ (passes rows : ℕ) where
           root = reservation_keeps_root passes rows ws k (n + 1);
           others = λ j pass apart. reservation_keeps_other passes rows ws k (n + 1) j apart;
           cells = λ x p shared place. reservation_keeps_cell passes rows ws k (n + 1) x p pass_within;
-          before = mine; number = mine; retired = refl;
+          before = mine;
+          number = mine;
+          retired = refl;
         } in
         let same = version_same passes rows ws us vs cs sound i k v v at leaves in
         let stored = reservation_stored passes rows ws k (n + 1) sound.long pass_within in
@@ -134,7 +150,8 @@ module _ (passes rows : ℕ) where
           announced = λ j m is loose reserves.
               let e = ap (λ (a : ℕ). reservation passes rows us a) (same_pass j is) in
               let both : n ≡ m = omega arith in noted ∙ ap Some both;
-          settled = own.settled; scan = own.scan;
+          settled = own.settled;
+          scan = own.scan;
         })
         (scans_new v (λ j u there. sound.scans j i u v there at) (sound.scans i i v v at at))
         (λ x. ap (λ a. times x v.fresh + a) (sym (owned_same ws us x (λ row. reservation_keeps_owner passes rows ws k (n + 1) x pass_within))))
@@ -163,7 +180,8 @@ module _ (passes rows : ℕ) where
         stays passes rows ws ws vs cs sound i k v w at leaves
         (λ a b pinned. inr (sym (ap (λ (p : ℕ × ℕ). p.0) (same_Some (n, r) (a, b) pinned))))
         (record {
-          numbered = own.numbered; older = own.older;
+          numbered = own.numbered;
+          older = own.older;
           named = λ a b pinned e. none-some k (sym e ∙ mine);
           pin = λ j a b is pinned.
               let P : ℕ × ℕ → Type 0 = λ p. IsPinned passes rows ws (set vs i w) cs j v.retired p.0 p.1 in
@@ -175,9 +193,9 @@ module _ (passes rows : ℕ) where
           scan = own.scan;
         })
         (scans_new w (λ j u there. sound.scans j i u v there at)
-            (λ j a q b is pinned seen here low.
-                let e = ap (λ (p : ℕ × ℕ). p.0) (same_Some (n, r) (a, q) pinned) in
-                let before = own.older b here in absurd (omega arith)))
+        (λ j a q b is pinned seen here low.
+        let e = ap (λ (p : ℕ × ℕ). p.0) (same_Some (n, r) (a, q) pinned) in
+        let before = own.older b here in absurd (omega arith)))
         (λ x. refl)
 
     pub takes : (r word : ℕ) → r < rows → 0 < word → owner passes rows ws r ≡ 0 → Sound passes rows (set ws (owner_at passes rows r) word) (set vs i (taking r v)) cs
@@ -189,7 +207,9 @@ module _ (passes rows : ℕ) where
           root = owner_keeps_root passes rows ws r word;
           others = λ j pass apart. owner_keeps_reservation passes rows ws r word j pass;
           cells = λ x p shared place. owner_keeps_cell passes rows ws r word x p row;
-          before = mine; number = mine; retired = refl;
+          before = mine;
+          number = mine;
+          retired = refl;
         } in
         let same = version_same passes rows ws us vs cs sound i k v w at leaves in
         let kept : (j : ℕ) → v.number ≡ Some j → reservation passes rows us j ≡ reservation passes rows ws j = λ j is. owner_keeps_reservation passes rows ws r word j (own.numbered j is) in
@@ -204,21 +224,22 @@ module _ (passes rows : ℕ) where
           noted = λ m is. omega (arith, own.noted m is);
           newer = own.newer;
           announced = λ j m is loose reserves. own.announced j m is loose (sym (kept j is) ∙ reserves);
-          settled = own.settled; scan = own.scan;
+          settled = own.settled;
+          scan = own.scan;
         })
         (scans_new w (λ j u there. sound.scans j i u v there at) (sound.scans i i v v at at))
         (λ x. ⊎_elim
-            (λ e.
-                let one = times-head r [] in
-                let here : times x (r ∷ []) ≡ 1 = subst (λ (y : ℕ). times y (r ∷ []) ≡ 1) (sym e) one in
-                let was : owned passes rows ws x ≡ 0 = subst (λ (y : ℕ). owned passes rows ws y ≡ 0) (sym e) (owned_free ws r free) in
-                let now : owned passes rows us x ≡ 1 = subst (λ (y : ℕ). owned passes rows us y ≡ 1) (sym e) (owned_taken us r row (omega arith)) in
-                omega (arith, times-append x v.fresh (r ∷ [])))
-            (λ apart.
-                let none = times-tail x r [] apart in
-                let e = owned_same ws us x (λ inside. owner_keeps_owner passes rows ws r word x apart) in
-                omega (arith, times-append x v.fresh (r ∷ [])))
-            (cases_eq x r))
+        (λ e.
+        let one = times-head r [] in
+        let here : times x (r ∷ []) ≡ 1 = subst (λ (y : ℕ). times y (r ∷ []) ≡ 1) (sym e) one in
+        let was : owned passes rows ws x ≡ 0 = subst (λ (y : ℕ). owned passes rows ws y ≡ 0) (sym e) (owned_free ws r free) in
+        let now : owned passes rows us x ≡ 1 = subst (λ (y : ℕ). owned passes rows us y ≡ 1) (sym e) (owned_taken us r row (omega arith)) in
+        omega (arith, times-append x v.fresh (r ∷ [])))
+        (λ apart.
+        let none = times-tail x r [] apart in
+        let e = owned_same ws us x (λ inside. owner_keeps_owner passes rows ws r word x apart) in
+        omega (arith, times-append x v.fresh (r ∷ [])))
+        (cases_eq x r))
 
     -- a fresh row is neither live nor retired
     pub fresh_unshared : (r x : ℕ) → In r v.fresh → IsShared passes rows ws vs x → x ≢ r
@@ -239,7 +260,9 @@ module _ (passes rows : ℕ) where
           root = cell_keeps_root passes rows ws r p word;
           others = λ j pass apart. cell_keeps_reservation passes rows ws r p word j pass;
           cells = λ x q shared other. cell_keeps_other passes rows ws r p word x q place other (fresh_unshared r x fresh shared);
-          before = mine; number = mine; retired = refl;
+          before = mine;
+          number = mine;
+          retired = refl;
         } in
         let same = version_same passes rows ws us vs cs sound i k v v at leaves in
         let kept : (j : ℕ) → v.number ≡ Some j → reservation passes rows us j ≡ reservation passes rows ws j = λ j is. cell_keeps_reservation passes rows ws r p word j (own.numbered j is) in
@@ -253,7 +276,8 @@ module _ (passes rows : ℕ) where
           noted = λ m is. omega (arith, own.noted m is);
           newer = own.newer;
           announced = λ j m is loose reserves. own.announced j m is loose (sym (kept j is) ∙ reserves);
-          settled = own.settled; scan = own.scan;
+          settled = own.settled;
+          scan = own.scan;
         })
         (scans_new v (λ j u there. sound.scans j i u v there at) (sound.scans i i v v at at))
         (λ x. ap (λ a. times x v.fresh + a) (sym (owned_same ws us x (λ row. cell_keeps_owner passes rows ws r p word x row))))
@@ -267,7 +291,9 @@ module _ (passes rows : ℕ) where
           root = reservation_keeps_root passes rows ws k 0;
           others = λ j pass apart. reservation_keeps_other passes rows ws k 0 j apart;
           cells = λ x p shared place. reservation_keeps_cell passes rows ws k 0 x p pass_within;
-          before = mine; number = mine; retired = refl;
+          before = mine;
+          number = mine;
+          retired = refl;
         } in
         let same = version_same passes rows ws us vs cs sound i k v w at leaves in
         let stored = reservation_stored passes rows ws k 0 sound.long pass_within in
@@ -292,23 +318,28 @@ module _ (passes rows : ℕ) where
         let w = looking j (reservation passes rows ws j) v in
         let leaves = quiet w mine refl in
         let seen : (a : ℕ) (u : View) → get_elem? vs a ≡ some u → Scans u w = λ a u there m n r b is pinned before here low.
-            ⊎_elim
-            (λ e.
-                let pin = (sound.each a u there).pin m n r is pinned in
-                let at_j = ap (λ (x : ℕ). reservation passes rows ws x) e in
-                clears_right (cond (eqb j 0) None v.least) (reserved (reservation passes rows ws j)) b (reserved_low (reservation passes rows ws j) b (omega (arith, pin.has_reserved)) (omega (arith, pin.early))))
-            (λ apart.
-                let later : j ≢ 0 = λ e. absurd (omega arith) in
-                let next : j ≡ v.scanned = ⊎_elim (λ e. absurd (later e)) (λ e. e) turn in
-                let known = sound.scans a i u v there at m n r b is pinned (omega arith) here low in
-                clears_left (cond (eqb j 0) None v.least) (reserved (reservation passes rows ws j)) b (ap (λ t. clears (cond t None v.least) b) (ne_eqb j 0 later) ∙ known))
-            (cases_eq m j) in
+        ⊎_elim
+        (λ e.
+        let pin = (sound.each a u there).pin m n r is pinned in
+        let at_j = ap (λ (x : ℕ). reservation passes rows ws x) e in
+        clears_right (cond (eqb j 0) None v.least) (reserved (reservation passes rows ws j)) b (reserved_low (reservation passes rows ws j) b (omega (arith, pin.has_reserved)) (omega (arith, pin.early))))
+        (λ apart.
+        let later : j ≢ 0 = λ e. absurd (omega arith) in
+        let next : j ≡ v.scanned = ⊎_elim (λ e. absurd (later e)) (λ e. e) turn in
+        let known = sound.scans a i u v there at m n r b is pinned (omega arith) here low in
+        clears_left (cond (eqb j 0) None v.least) (reserved (reservation passes rows ws j)) b (ap (λ t. clears (cond t None v.least) b) (ne_eqb j 0 later) ∙ known))
+        (cases_eq m j) in
         stays passes rows ws ws vs cs sound i k v w at leaves
         (λ n r pinned. inl pinned)
         (record {
-          numbered = own.numbered; older = own.older; named = own.named;
+          numbered = own.numbered;
+          older = own.older;
+          named = own.named;
           pin = λ m n r is pinned. pin_same passes rows ws ws vs cs sound i k v w at leaves m n r v.retired refl (own.pin m n r is pinned);
-          noted = own.noted; newer = own.newer; announced = own.announced; settled = own.settled;
+          noted = own.noted;
+          newer = own.newer;
+          announced = own.announced;
+          settled = own.settled;
           scan = omega arith;
         })
         (scans_new w seen (seen i v at))

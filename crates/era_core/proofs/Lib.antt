@@ -11,5 +11,5 @@ pub mod Publishes
 pub mod CopyFacts
 pub mod Starts
 pub mod Runs
-pub mod Laws
+pub mod Readers
 pub mod Held

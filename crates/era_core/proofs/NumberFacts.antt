@@ -15,13 +15,13 @@ module _ (vs : List View) (i k : ℕ) (v w : View) (at : get_elem? vs i ≡ some
   apart_still apart a b x y m xa yb xm ym =
       ⊎_elim
       (λ x_new. ⊎_elim
-          (λ y_new. x_new.0 ∙ sym y_new.0)
-          (λ y_old. x_new.0 ∙ apart i b v y m at y_old.1 (before ∙ sym number ∙ ap (λ (u : View). u.number) x_new.1 ∙ xm) ym)
-          (at_set vs i b w y yb))
+      (λ y_new. x_new.0 ∙ sym y_new.0)
+      (λ y_old. x_new.0 ∙ apart i b v y m at y_old.1 (before ∙ sym number ∙ ap (λ (u : View). u.number) x_new.1 ∙ xm) ym)
+      (at_set vs i b w y yb))
       (λ x_old. ⊎_elim
-          (λ y_new. apart a i x v m x_old.1 at xm (before ∙ sym number ∙ ap (λ (u : View). u.number) y_new.1 ∙ ym) ∙ sym y_new.0)
-          (λ y_old. apart a b x y m x_old.1 y_old.1 xm ym)
-          (at_set vs i b w y yb))
+      (λ y_new. apart a i x v m x_old.1 at xm (before ∙ sym number ∙ ap (λ (u : View). u.number) y_new.1 ∙ ym) ∙ sym y_new.0)
+      (λ y_old. apart a b x y m x_old.1 y_old.1 xm ym)
+      (at_set vs i b w y yb))
       (at_set vs i a w x xa)
 
   -- a pass without a view has had none before

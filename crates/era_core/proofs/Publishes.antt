@@ -198,14 +198,14 @@ module _ (passes rows : ℕ) where
         let was = ap (times x) old_is in
         ⊎_elim
         (λ none.
-            let f = times-without_kept x new v.fresh none in
-            let g = times-without_kept x new old none in omega arith)
+        let f = times-without_kept x new v.fresh none in
+        let g = times-without_kept x new old none in omega arith)
         (λ there.
-            let here : In x new = positive (times x new) there in
-            let f = times-without_gone x new v.fresh here in
-            let g = times-without_gone x new old here in
-            let one = once x in
-            ⊎_elim (λ fresh. omega (arith, sound.places x)) (λ kept. omega (arith, sound.places x)) (parts x here))
+        let here : In x new = positive (times x new) there in
+        let f = times-without_gone x new v.fresh here in
+        let g = times-without_gone x new old here in
+        let one = once x in
+        ⊎_elim (λ fresh. omega (arith, sound.places x)) (λ kept. omega (arith, sound.places x)) (parts x here))
         (cases_eq (times x new) 0)
       where
         positive : (y : ℕ) → (y ≡ 0 → ⊥) → 0 < y
@@ -217,9 +217,9 @@ module _ (passes rows : ℕ) where
         ⊎_elim
         (λ y_new. subst (λ (z : View). Scans x z) y_new.1 (λ j m r d is is_pinned seen here low. absurd (omega arith)))
         (λ y_old. ⊎_elim
-            (λ x_new. subst (λ (z : View). Scans z y) x_new.1 (sound.scans i b v y at y_old.1))
-            (λ x_old. sound.scans a b x y x_old.1 y_old.1)
-            (at_set vs i a w x xa))
+        (λ x_new. subst (λ (z : View). Scans z y) x_new.1 (sound.scans i b v y at y_old.1))
+        (λ x_old. sound.scans a b x y x_old.1 y_old.1)
+        (at_set vs i a w x xa))
         (at_set vs i b w y yb)
 
     pub publishes : Sound passes rows (set ws 0 (root_word (n + 1) q)) (set vs i (publishing n (tree_at passes rows ws p) (tree_at passes rows ws q) v)) (cs ++ c ∷ [])

@@ -75,10 +75,10 @@ module _ (passes rows : ℕ) (few : rows ≤ 262144) (ws : List ℕ) (vs : List 
       (ltb-true 0 (times q v.fresh) b.1)
       (different_once new d.1)
       (λ x here.
-          ⊎_elim
-          (λ fresh. inl (ltb-true 0 (times x v.fresh) fresh))
-          (λ kept. inr (ltb-true 0 (times x old) kept))
-          (or_cases (is_in x v.fresh) (is_in x old) (list_all-in (λ y. is_in y v.fresh || is_in y old) new x c.1 here)))
+      ⊎_elim
+      (λ fresh. inl (ltb-true 0 (times x v.fresh) fresh))
+      (λ kept. inr (ltb-true 0 (times x old) kept))
+      (or_cases (is_in x v.fresh) (is_in x old) (list_all-in (λ y. is_in y v.fresh || is_in y old) new x c.1 here)))
       (copy_at passes rows ws q) refl refl (copy_stands passes rows ws q) (copy_closed passes rows ws q)
 
   -- each event that is allowed keeps what is sound
@@ -111,8 +111,8 @@ module _ (passes rows : ℕ) (few : rows ≤ 262144) (ws : List ℕ) (vs : List 
       ⊎_elim
       (λ fresh. frees_fresh passes rows ws vs cs sound k k v at mine r (ltb-true 0 (times r v.fresh) fresh))
       (λ retired.
-          let b = and_parts (eqb v.scanned passes) (list_any (λ b. is_in r b.1 && clears v.least b.0) v.retired) retired in
-          frees_retired passes rows ws vs cs sound k k v at mine r (eqb-true v.scanned passes b.0) b.1)
+      let b = and_parts (eqb v.scanned passes) (list_any (λ b. is_in r b.1 && clears v.least b.0) v.retired) retired in
+      frees_retired passes rows ws vs cs sound k k v at mine r (eqb-true v.scanned passes b.0) b.1)
       (or_cases (is_in r v.fresh) scan a.1)
 
 cond_number : (b : Bool) (u v : View) → u.number ≡ v.number → (cond b u v).number ≡ v.number
@@ -152,8 +152,8 @@ whole_after passes rows ws v cs (Publish k q) whole = more (finds_pinned passes 
         ⊎_elim
         (λ was. whole n c was r p here place)
         (λ last.
-            let P : Copy → Type 0 = λ x. In r x.rows → is_some (look_up x.cells r p) ≡ true in
-            subst P last.1 (λ inside. copy_whole passes rows ws q r p inside place) here)
+        let P : Copy → Type 0 = λ x. In r x.rows → is_some (look_up x.cells r p) ≡ true in
+        subst P last.1 (λ inside. copy_whole passes rows ws q r p inside place) here)
         (at_push cs (copy_at passes rows ws q) c n there)
     more false n c there r p here place = whole n c there r p here place
 whole_after passes rows ws v cs (Note k) whole = whole

@@ -107,9 +107,9 @@ module _ (passes rows : ℕ) where
         let none = nothing_held 0 passes r in
         ⊎_elim
         (λ e.
-            let P : ℕ → Type 0 = λ x. times x (0 ∷ []) ≡ owned passes rows ws x in
-            let here : times r (0 ∷ []) ≡ owned passes rows ws r = subst P (sym e) (sym (owned_taken passes rows ws 0 some_row (omega (arith, owner_stored passes rows zeros 0 1 (length-replicate (words_len passes rows) 0) some_row)))) in
-            omega arith)
+        let P : ℕ → Type 0 = λ x. times x (0 ∷ []) ≡ owned passes rows ws x in
+        let here : times r (0 ∷ []) ≡ owned passes rows ws r = subst P (sym e) (sym (owned_taken passes rows ws 0 some_row (omega (arith, owner_stored passes rows zeros 0 1 (length-replicate (words_len passes rows) 0) some_row)))) in
+        omega arith)
         (λ apart. let a = times-tail r 0 [] apart in let b = owned_free passes rows ws r (start_owner r apart) in omega arith)
         (cases_eq r 0);
     each = λ i v there. let one = view_at i v there in subst (λ (x : View). Fits passes rows ws (start_views 0 passes) (start_copies rows passes) x) one.0 (fits_start i one.1);

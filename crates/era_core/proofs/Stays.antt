@@ -136,9 +136,9 @@ module _ (passes rows : ℕ) where
               ⊎_elim
               (λ y_new. subst (λ (z : View). Scans x z) y_new.1 (scans a x xa))
               (λ y_old. ⊎_elim
-                  (λ x_new. subst (λ (z : View). Scans z y) x_new.1 (scans_back b y y_old.1 old))
-                  (λ x_old. sound.scans a b x y x_old.1 y_old.1)
-                  (at_new a x xa))
+              (λ x_new. subst (λ (z : View). Scans z y) x_new.1 (scans_back b y y_old.1 old))
+              (λ x_old. sound.scans a b x y x_old.1 y_old.1)
+              (at_new a x xa))
               (at_new b y yb);
           closed = sound.closed;
         }

@@ -29,7 +29,7 @@ tree_same links others zero r same = refl
 tree_same links others (suc depth) r same =
     ap (λ ys. r ∷ flat_map (tree others depth) ys) (same r (in_head r (flat_map (tree links depth) (links r))))
     ∙ ap (λ ys. r ∷ ys) (flat_map-same (tree links depth) (tree others depth) (links r) (λ y there.
-        tree_same links others depth y (λ x here. same x (in_tail x r (flat_map (tree links depth) (links r)) (in-flat_map (tree links depth) (links r) x y there here)))))
+    tree_same links others depth y (λ x here. same x (in_tail x r (flat_map (tree links depth) (links r)) (in-flat_map (tree links depth) (links r) x y there here)))))
 
 module _ (passes rows : ℕ) where
   -- the tree at a row stays where the words of its rows do

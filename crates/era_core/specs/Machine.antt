@@ -134,7 +134,8 @@ abbrev pub after_at : Machine → Event → Option View → Machine
 after_at m e None = m
 after_at m e (Some v) =
     record {
-      rows = m.rows; passes = m.passes;
+      rows = m.rows;
+      passes = m.passes;
       words = words_after m.passes m.rows m.words v e;
       views = slice_set m.views (pass_of e) (view_after m.passes m.rows m.words v e);
     }

@@ -48,7 +48,7 @@ module _ (passes rows : ℕ) (ws : List ℕ) (cells : List Cell) (stands : Stand
   pub tree_stands : (r : ℕ) → ((x : ℕ) → In x (tree (known_links cells) rows r) → Covers cells x) → tree_at passes rows ws r ≡ tree (known_links cells) rows r
   tree_stands r covers =
       tree_same (known_links cells) (links passes rows ws) rows r (λ x here.
-          sym (links_by-counted (known cells x) (cell passes rows ws x) (λ p below. known_stands x p (covers x here p below))))
+      sym (links_by-counted (known cells x) (cell passes rows ws x) (λ p below. known_stands x p (covers x here p below))))
 
 -- the tree at a pinned root row, as it stands, is that of the version
 pub pinned_tree : (passes rows : ℕ) (ws : List ℕ) (vs : List View) (cs : List Copy) → Sound passes rows ws vs cs
@@ -56,7 +56,7 @@ pub pinned_tree : (passes rows : ℕ) (ws : List ℕ) (vs : List View) (cs : Lis
 pinned_tree passes rows ws vs cs sound k n r retired pin c there =
     let closed = sound.closed n c there in
     let e : tree_at passes rows ws c.root ≡ c.rows =
-        tree_stands passes rows ws c.cells (pin.stands c there) c.root (λ x here. closed.covers x (subst (In x) (sym closed.is_tree) here)) ∙ sym closed.is_tree in
+    tree_stands passes rows ws c.cells (pin.stands c there) c.root (λ x here. closed.covers x (subst (In x) (sym closed.is_tree) here)) ∙ sym closed.is_tree in
     ap (tree_at passes rows ws) (sym (pin.rooted c there)) ∙ e
 
 -- a live or retired row has an owner
@@ -91,7 +91,12 @@ reader m cs is_sound k n root e = by_view (slice_get m.views k) refl e
         let pin = (is_sound.sound.each k v at).pin k n root (is_sound.ordered k v at) pinned in
         let there = at_below cs n (omega (arith, is_sound.sound.counted, pin.published)) in
         record {
-          view = v; at = is; pinned = pinned; copy = there.0; there = there.1; pin = pin;
+          view = v;
+          at = is;
+          pinned = pinned;
+          copy = there.0;
+          there = there.1;
+          pin = pin;
           rows_are = pinned_tree m.passes m.rows m.words m.views cs is_sound.sound k n root v.retired pin there.0 there.1;
         }
 
@@ -143,11 +148,11 @@ module _ (m : Machine) (cs : List Copy) (is_sound : IsSound m cs) (k n root : �
       let t = known_reader in
       let e = Read k r p in
       let in_tree : is_in r (pinned_rows m.passes m.rows m.words t.view.pinned) ≡ true =
-          ap (λ o. is_in r (pinned_rows m.passes m.rows m.words o)) t.pinned ∙ lt-ltb 0 (times r (tree_of m root)) here in
+      ap (λ o. is_in r (pinned_rows m.passes m.rows m.words o)) t.pinned ∙ lt-ltb 0 (times r (tree_of m root)) here in
       let fits : may m.passes m.rows m.words t.view e ≡ true =
-          and_from (ltb r m.rows && ltb p 40) (is_in r t.view.fresh || is_in r (pinned_rows m.passes m.rows m.words t.view.pinned))
-          (and_from (ltb r m.rows) (ltb p 40) (lt-ltb r m.rows (pinned_within r here)) (lt-ltb p 40 place))
-          (or_right_true (is_in r t.view.fresh) (is_in r (pinned_rows m.passes m.rows m.words t.view.pinned)) in_tree) in
+      and_from (ltb r m.rows && ltb p 40) (is_in r t.view.fresh || is_in r (pinned_rows m.passes m.rows m.words t.view.pinned))
+      (and_from (ltb r m.rows) (ltb p 40) (lt-ltb r m.rows (pinned_within r here)) (lt-ltb p 40 place))
+      (or_right_true (is_in r t.view.fresh) (is_in r (pinned_rows m.passes m.rows m.words t.view.pinned)) in_tree) in
       let ok : allows m e ≡ true = ap (allows_at m e) t.at ∙ fits in
       (ok, read_last m k r p t.view t.at ok ∙ sym (pinned_word r p here place))
 
@@ -163,9 +168,9 @@ read_fresh m cs is_sound k r p here place = by_view (slice_get m.views k) refl h
         let at = at_slice_get m.views k v is in
         let row = held_within m.passes m.rows m.words m.views cs is_sound.sound k k v at (is_sound.ordered k v at) r (omega (arith, times-append r v.fresh (rows_in v.retired))) in
         let fits : may m.passes m.rows m.words v (Read k r p) ≡ true =
-            and_from (ltb r m.rows && ltb p 40) (is_in r v.fresh || is_in r (pinned_rows m.passes m.rows m.words v.pinned))
-            (and_from (ltb r m.rows) (ltb p 40) (lt-ltb r m.rows row) (lt-ltb p 40 place))
-            (or_left (is_in r v.fresh) (is_in r (pinned_rows m.passes m.rows m.words v.pinned)) (lt-ltb 0 (times r v.fresh) fresh)) in
+        and_from (ltb r m.rows && ltb p 40) (is_in r v.fresh || is_in r (pinned_rows m.passes m.rows m.words v.pinned))
+        (and_from (ltb r m.rows) (ltb p 40) (lt-ltb r m.rows row) (lt-ltb p 40 place))
+        (or_left (is_in r v.fresh) (is_in r (pinned_rows m.passes m.rows m.words v.pinned)) (lt-ltb 0 (times r v.fresh) fresh)) in
         let ok : allows m (Read k r p) ≡ true = ap (allows_at m (Read k r p)) is ∙ fits in
         (ok, read_last m k r p v is ok)
 
