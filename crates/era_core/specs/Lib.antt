@@ -5,3 +5,4 @@ pub mod Versions
 pub mod Sound
 pub mod Machine
 pub mod Schedules
+pub mod Passes

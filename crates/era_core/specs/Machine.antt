@@ -2,7 +2,7 @@
 use Rattle.std.specs.Prelude.{◌≡◌, ◌≢◌, ℕ, zero, suc, ◌+◌, ◌-◌, ◌/◌, ◌^◌, ◌<◌, ◌≤◌, Bool, true, false, ◌&&◌, ◌||◌, nat_lt, nat_le, ◌==◌, if◌then◌else◌, Option, Some, None, is_none, is_some, option_map, option_and_then, unwrap_or, not, List, [], ◌∷◌, ◌++◌, length, slice_index, slice_set, slice_get}
 use Rattle.std.specs.List.{list_all, list_any}
 use Rattle.era_core.specs.Lists.{is_in, all_different, In}
-use Rattle.era_core.specs.Words.{root_word, version, root_row, reservation_at, owner_at, cell_at, reservation, owner, cell, links, tree_at, live, start_words}
+use Rattle.era_core.specs.Words.{words_len, root_word, version, root_row, reservation_at, owner_at, cell_at, reservation, owner, cell, links, tree_at, live, start_words}
 use Rattle.era_core.specs.Views.{View, start_view, clears, noting, pinning, reading, taking, publishing, unpinning, looking, freeing}
 use Rattle.era_core.specs.Versions.{Copy, copy_at, look_up}
 use Rattle.era_core.specs.Sound.{Sound}
@@ -211,3 +211,14 @@ pub record VersionStands (m later : Machine) (root : ℕ) : Type 0 where
   pub tree : tree_of later root ≡ tree_of m root
   pub owned : (r : ℕ) → In r (tree_of m root) → owner_of later r ≢ 0
   pub words : (r p : ℕ) → In r (tree_of m root) → p < 40 → cell_of later r p ≡ cell_of m r p
+
+-- What the running machine keeps: its sizes, owners that are passes, and that some versions make it sound
+pub record IsRunning (m : Machine) : Type 0 where
+  pub some_row : 0 < m.rows
+  pub few_rows : m.rows ≤ 262144
+  pub some_pass : 0 < m.passes
+  pub few_passes : m.passes ≤ 64
+  pub long : length m.words ≡ words_len m.passes m.rows
+  pub counted : length m.views ≡ m.passes
+  pub owners : (r : ℕ) → r < m.rows → owner_of m r ≤ m.passes
+  pub sound : ∥ ((cs : List Copy) × IsSound m cs) ∥₁

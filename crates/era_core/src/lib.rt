@@ -7,9 +7,12 @@
 //! while a pass can still read it. This is after hazard eras and epoch reclamation.
 #![tactic(auto)]
 
+mod arena;
 mod event;
 mod laws;
+mod pass;
 
+pub use arena::Core;
 pub use event::Event;
 pub use laws::{
     events_keep_soundness, fresh_reads, pinned_reads, schedules_are_sound, taken_rows_are_unread,
