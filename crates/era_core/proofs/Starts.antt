@@ -9,7 +9,7 @@ use Rattle.era_core.specs.Words.{version, root_row, words_len, owner_at, reserva
 use Rattle.era_core.specs.Views.{View, start_view, rows_in, versions_of, held}
 use Rattle.era_core.specs.Versions.{Copy, copy_at, look_up, IsClosed, Stands}
 use Rattle.era_core.specs.Sound.{Scans, owned, IsPinned, Fits, Sound}
-use Rattle.era_core.specs.Machine.{Machine, start, start_views, start_copies, IsSound}
+use Rattle.era_core.specs.Machine.{Machine, start, start_views, start_copies, owner_of, IsSound, IsRunning}
 use Rattle.era_core.proofs.ListFacts.{times-head, times-tail, at_push}
 use Rattle.era_core.proofs.WordFacts.{owner_keeps_root, owner_keeps_reservation, owner_keeps_owner, owner_stored, owner_keeps_cell}
 use Rattle.era_core.proofs.Keeps.{owned_free, owned_taken}
@@ -21,6 +21,12 @@ blank : (n i : ℕ) → slice_index (replicate n 0) i ≡ 0
 blank zero i = refl
 blank (suc n) zero = refl
 blank (suc n) (suc i) = blank n i
+
+-- a store of 1 where 0 stood leaves no more than 1
+small : (xs : List ℕ) (i : ℕ) → slice_index xs i ≡ 0 → slice_index (set xs i 1) i ≤ 1
+small [] i e = omega arith
+small (x ∷ xs) zero e = omega arith
+small (x ∷ xs) (suc i) e = small xs i e
 
 -- the view at each place
 pub at_start : (k n i : ℕ) (v : View) → get_elem? (start_views k n) i ≡ some v → (start_view (k + i) ≡ v) × (i < n)
@@ -132,3 +138,30 @@ module _ (passes rows : ℕ) where
         let P : Copy → Type 0 = λ x. In r x.rows → is_some (look_up x.cells r p) ≡ true in
         subst P (one_copy n c there) (λ inside. copy_whole passes rows ws 0 r p inside place) here;
   }
+
+  start_owners : (r : ℕ) → owner_of (start rows passes) r ≤ 1
+  start_owners r =
+      ⊎_elim
+      (λ e. let P : ℕ → Type 0 = λ x. owner passes rows ws x ≤ 1 in subst P (sym e) (first_owner))
+      (λ apart. omega (arith, start_owner r apart))
+      (cases_eq r 0)
+    where
+      first_owner : owner passes rows ws 0 ≤ 1
+      first_owner = small zeros (owner_at passes rows 0) (blank (words_len passes rows) (owner_at passes rows 0))
+
+  pub start_running : 0 < rows → rows ≤ 262144 → 0 < passes → passes ≤ 64 → IsRunning (start rows passes)
+  start_running some_row few some_pass few_passes = record {
+    some_row = some_row; few_rows = few; some_pass = some_pass; few_passes = few_passes;
+    long = start_long;
+    counted = length-start_views 0 passes;
+    owners = λ r row. omega (arith, start_owners r);
+    sound = ∣ (start_copies rows passes, starts some_row few) ∣₁;
+  }
+
+  -- the same of a machine with these words and views
+  pub running_as : (words : List ℕ) (views : List View) → words ≡ start_words passes rows → views ≡ start_views 0 passes → 0 < rows → rows ≤ 262144 → 0 < passes → passes ≤ 64
+      → IsRunning (record { rows = rows; passes = passes; words = words; views = views })
+  running_as words views same_words same_views some_row few some_pass few_passes =
+      let P : List ℕ → Type 0 = λ x. IsRunning (record { rows = rows; passes = passes; words = x; views = views }) in
+      let Q : List View → Type 0 = λ x. IsRunning (record { rows = rows; passes = passes; words = start_words passes rows; views = x }) in
+      subst P (sym same_words) (subst Q (sym same_views) (start_running some_row few some_pass few_passes))

@@ -1,12 +1,36 @@
 //! The machine as it runs.
 
 ghost use Rattle.std.specs.Prelude.{◌≡◌, ℕ, ◌<◌, ◌≤◌, map, IfOk};
-ghost use Rattle.era_core.specs.Words.{version, root_row, reservation};
-ghost use Rattle.era_core.specs.Machine.{start, owner_of, cell_of, last_of};
+ghost use Rattle.era_core.specs.Words.{version, root_row, reservation, start_words};
+ghost use Rattle.era_core.specs.Machine.{start, start_views, owner_of, cell_of, last_of};
+ghost use Rattle.era_core.specs.Passes.{view_of};
 
 use crate::pass::PassView;
 use std::alloc::{AllocError, Global};
 use std::marker::Model;
+
+// The words at the start.
+fn first_words(alloc: Global, rows: u32, passes: u32) -> Result<Vec<u64>, AllocError>
+    requires few_rows { rows ≤ 262144 }
+    requires few_passes { passes ≤ 64 }
+    requires some_row { 0 < rows }
+    ensures { IfOk result (λ words. words.items ≡ start_words passes rows) }
+{
+    let mut words = vec![in alloc; 0; 1 + passes as usize + rows as usize + 40 * rows as usize]?;
+    words[1 + passes as usize] = 1;
+    Ok(words)
+}
+
+// The views at the start, in the order of their passes.
+fn first_views(alloc: Global, passes: u32) -> Result<Vec<PassView>, AllocError>
+    ensures { IfOk result (λ views. map view_of views.items ≡ start_views 0 passes) }
+{
+    let mut views = Vec::new(alloc);
+    for number in 0..passes {
+        views.push(PassView::new(alloc, number))?;
+    }
+    Ok(views)
+}
 
 /// The machine: its words, and a view for each pass.
 #[derive(Drop)]
@@ -30,6 +54,25 @@ impl Model for Core {
 }
 
 impl Core {
+    /// The machine at its start, with so many rows, 1 to 262,144, and passes, 1 to 64. Row 0 is the empty leaf that
+    /// version 0 consists of, and every other row is free.
+    pub fn start(alloc: Global, rows: u32, passes: u32) -> Result<Core, AllocError>
+        requires some_row { 0 < rows }
+        requires few_rows { rows ≤ 262144 }
+        requires some_pass { 0 < passes }
+        requires few_passes { passes ≤ 64 }
+        ensures { IfOk result (λ core. core ≡ start rows passes) }
+    {
+        let words = first_words(alloc, rows, passes)?;
+        let views = first_views(alloc, passes)?;
+        Ok(Core {
+            rows,
+            passes,
+            words,
+            views,
+        })
+    }
+
     /// The version that is published, and its root row.
     pub fn root(&self) -> (u64, u32)
         ensures { result ≡ (version self.now.words, root_row self.now.words) }
