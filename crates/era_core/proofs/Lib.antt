@@ -13,3 +13,4 @@ pub mod Starts
 pub mod Runs
 pub mod Readers
 pub mod Held
+pub mod Running

@@ -1,0 +1,98 @@
+-- What the running machine keeps, it keeps at every event.
+use Rattle.std.proofs.Common.{◌≡◌, ◌≢◌, ℕ, ◌+◌, ◌<◌, ◌≤◌, ⊎_elim, Bool, true, false, cond, eqb, ltb, Option, Some, None, List, length, set, refl, sym, ap, subst, ◌∙◌, arith, length-set}
+use Rattle.std.specs.Prelude.{◌&&◌, ◌||◌, slice_get}
+use Rattle.std.specs.List.{list_any}
+use Rattle.std.proofs.Math.Logic.{∥∥₁_map}
+use Rattle.std.proofs.lemmas.Bool.{cases_eq, and_parts, ltb-true, false≢true}
+use Rattle.std.proofs.lemmas.Option.{slice_get_within}
+use Rattle.era_core.specs.Lists.{is_in}
+use Rattle.era_core.specs.Words.{root_word, words_len, owner_at, reservation_at, cell_at, owner}
+use Rattle.era_core.specs.Views.{View, clears}
+use Rattle.era_core.specs.Versions.{Copy}
+use Rattle.era_core.specs.Machine.{Machine, IsSound, IsRunning, pass_of, may, finds_pinned, words_announced, words_published, words_after, view_after, allows, allows_at, after, after_at, copies_after}
+use Rattle.era_core.specs.declared.event.Event.{Event}
+use Rattle.era_core.specs.declared.event.Event.TheVariants.{Note, Announce, Pin, Read, Take, Write, Publish, Unpin, Look, Free}
+use Rattle.era_core.proofs.WordFacts.{owner_keeps_owner, owner_stored, reservation_keeps_owner, cell_keeps_owner, root_keeps_owner}
+use Rattle.era_core.proofs.Runs.{after_sound}
+
+module _ (passes rows : ℕ) (ws : List ℕ) (long : length ws ≡ words_len passes rows) (small : (r : ℕ) → r < rows → owner passes rows ws r ≤ passes) where
+  -- a store of a small owner
+  stored_small : (x w : ℕ) → x < rows → w ≤ passes → (r : ℕ) → r < rows → owner passes rows (set ws (owner_at passes rows x) w) r ≤ passes
+  stored_small x w row low r inside =
+      ⊎_elim
+      (λ e.
+          let P : ℕ → Type 0 = λ y. owner passes rows (set ws (owner_at passes rows x) w) y ≤ passes in
+          subst P (sym e) (omega (arith, owner_stored passes rows ws x w long row)))
+      (λ apart. omega (arith, owner_keeps_owner passes rows ws x w r apart, small r inside))
+      (cases_eq r x)
+
+  owners_after : (v : View) (e : Event) → pass_of e < passes → may passes rows ws v e ≡ true → (r : ℕ) → r < rows → owner passes rows (words_after passes rows ws v e) r ≤ passes
+  owners_after v (Note k) pass ok r inside = small r inside
+  owners_after v (Announce k) pass ok r inside = announced v.noted
+    where
+      announced : (o : Option ℕ) → owner passes rows (words_announced passes rows ws k o) r ≤ passes
+      announced None = small r inside
+      announced (Some n) = omega (arith, reservation_keeps_owner passes rows ws k (n + 1) r pass, small r inside)
+  owners_after v (Pin k) pass ok r inside = small r inside
+  owners_after v (Read k x p) pass ok r inside = small r inside
+  owners_after v (Take k x) pass ok r inside = taken (eqb (owner passes rows ws x) 0)
+    where
+      taken : (b : Bool) → owner passes rows (cond b (set ws (owner_at passes rows x) (k + 1)) ws) r ≤ passes
+      taken true = stored_small x (k + 1) (ltb-true x rows ok) (omega arith) r inside
+      taken false = small r inside
+  owners_after v (Write k x p w) pass ok r inside = omega (arith, cell_keeps_owner passes rows ws x p w r inside, small r inside)
+  owners_after v (Publish k q) pass ok r inside = published (finds_pinned passes rows ws v.pinned) v.pinned
+    where
+      published : (b : Bool) (o : Option (ℕ × ℕ)) → owner passes rows (cond b (words_published passes rows ws q o) ws) r ≤ passes
+      published false o = small r inside
+      published true None = small r inside
+      published true (Some pin) = omega (arith, root_keeps_owner passes rows ws (root_word (pin.0 + 1) q) r, small r inside)
+  owners_after v (Unpin k) pass ok r inside = omega (arith, reservation_keeps_owner passes rows ws k 0 r pass, small r inside)
+  owners_after v (Look k j) pass ok r inside = small r inside
+  owners_after v (Free k x) pass ok r inside =
+      let both = and_parts (ltb x rows) (is_in x v.fresh || (eqb v.scanned passes && list_any (λ b. is_in x b.1 && clears v.least b.0) v.retired)) ok in
+      stored_small x 0 (ltb-true x rows both.0) (omega arith) r inside
+
+  -- an event stores one word at most
+  length_after : (v : View) (e : Event) → length (words_after passes rows ws v e) ≡ length ws
+  length_after v (Note k) = refl
+  length_after v (Announce k) = announced v.noted
+    where
+      announced : (o : Option ℕ) → length (words_announced passes rows ws k o) ≡ length ws
+      announced None = refl
+      announced (Some n) = length-set ws (reservation_at passes rows k) (n + 1)
+  length_after v (Pin k) = refl
+  length_after v (Read k x p) = refl
+  length_after v (Take k x) = taken (eqb (owner passes rows ws x) 0)
+    where
+      taken : (b : Bool) → length (cond b (set ws (owner_at passes rows x) (k + 1)) ws) ≡ length ws
+      taken true = length-set ws (owner_at passes rows x) (k + 1)
+      taken false = refl
+  length_after v (Write k x p w) = length-set ws (cell_at passes rows x p) w
+  length_after v (Publish k q) = published (finds_pinned passes rows ws v.pinned) v.pinned
+    where
+      published : (b : Bool) (o : Option (ℕ × ℕ)) → length (cond b (words_published passes rows ws q o) ws) ≡ length ws
+      published false o = refl
+      published true None = refl
+      published true (Some pin) = length-set ws 0 (root_word (pin.0 + 1) q)
+  length_after v (Unpin k) = length-set ws (reservation_at passes rows k) 0
+  length_after v (Look k j) = refl
+  length_after v (Free k x) = length-set ws (owner_at passes rows x) 0
+
+module _ (m : Machine) (e : Event) (running : IsRunning m) where
+  by_view : (o : Option View) → slice_get m.views (pass_of e) ≡ o → allows_at m e o ≡ true → ∥ ((cs : List Copy) × IsSound (after_at m e o) cs) ∥₁ → IsRunning (after_at m e o)
+  by_view None is ok sound = absurd (false≢true ok)
+  by_view (Some v) is ok sound = record {
+    some_row = running.some_row; few_rows = running.few_rows; some_pass = running.some_pass; few_passes = running.few_passes;
+    long = length_after m.passes m.rows m.words running.long running.owners v e ∙ running.long;
+    counted = length-set m.views (pass_of e) (view_after m.passes m.rows m.words v e) ∙ running.counted;
+    owners = owners_after m.passes m.rows m.words running.long running.owners v e (omega (arith, slice_get_within m.views (pass_of e) v is, running.counted)) ok;
+    sound = sound;
+  }
+
+  by_test : (b : Bool) → allows m e ≡ b → ∥ ((cs : List Copy) × IsSound (cond b (after_at m e (slice_get m.views (pass_of e))) m) cs) ∥₁ → IsRunning (cond b (after_at m e (slice_get m.views (pass_of e))) m)
+  by_test true ok sound = by_view (slice_get m.views (pass_of e)) refl ok sound
+  by_test false refused sound = running
+
+  pub running_after : IsRunning (after m e)
+  running_after = by_test (allows m e) refl (∥∥₁_map running.sound (λ known. (copies_after m known.0 e, after_sound m known.0 e known.1)))
