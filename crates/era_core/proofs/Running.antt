@@ -1,10 +1,10 @@
 -- What the running machine keeps, it keeps at every event.
-use Rattle.std.proofs.Common.{◌≡◌, ◌≢◌, ℕ, ◌+◌, ◌<◌, ◌≤◌, ⊎_elim, Bool, true, false, cond, eqb, ltb, Option, Some, None, List, length, set, refl, sym, ap, subst, ◌∙◌, arith, length-set}
+use Rattle.std.proofs.Common.{◌≡◌, ◌≢◌, ℕ, ◌+◌, ◌<◌, ◌≤◌, ⊎_elim, Bool, true, false, cond, eqb, ltb, Option, Some, None, List, [], ◌∷◌, map, get_or, zero, suc, length, set, refl, sym, ap, subst, ◌∙◌, arith, length-set}
 use Rattle.std.specs.Prelude.{◌&&◌, ◌||◌, slice_get}
 use Rattle.std.specs.List.{list_any}
 use Rattle.std.proofs.Math.Logic.{∥∥₁_map}
 use Rattle.std.proofs.lemmas.Bool.{cases_eq, and_parts, ltb-true, false≢true}
-use Rattle.std.proofs.lemmas.Option.{slice_get_within}
+use Rattle.std.proofs.lemmas.Option.{slice_get_within, slice_get_past}
 use Rattle.era_core.specs.Lists.{is_in}
 use Rattle.era_core.specs.Words.{root_word, words_len, owner_at, reservation_at, cell_at, owner}
 use Rattle.era_core.specs.Views.{View, clears}
@@ -13,7 +13,8 @@ use Rattle.era_core.specs.Machine.{Machine, IsSound, IsRunning, pass_of, may, fi
 use Rattle.era_core.specs.declared.event.Event.{Event}
 use Rattle.era_core.specs.declared.event.Event.TheVariants.{Note, Announce, Pin, Read, Take, Write, Publish, Unpin, Look, Free}
 use Rattle.era_core.proofs.WordFacts.{owner_keeps_owner, owner_stored, reservation_keeps_owner, cell_keeps_owner, root_keeps_owner}
-use Rattle.era_core.proofs.Runs.{after_sound}
+use Rattle.era_core.proofs.ListFacts.{set_again}
+use Rattle.era_core.proofs.Runs.{after_sound, at_slice_get}
 
 module _ (passes rows : ℕ) (ws : List ℕ) (long : length ws ≡ words_len passes rows) (small : (r : ℕ) → r < rows → owner passes rows ws r ≤ passes) where
   -- a store of a small owner
@@ -96,3 +97,39 @@ module _ (m : Machine) (e : Event) (running : IsRunning m) where
 
   pub running_after : IsRunning (after m e)
   running_after = by_test (allows m e) refl (∥∥₁_map running.sound (λ known. (copies_after m known.0 e, after_sound m known.0 e known.1)))
+
+-- the machine with these words, and this view in the place of a pass's
+abbrev pub put : Machine → ℕ → List ℕ → View → Machine
+put m k words view = record { rows = m.rows; passes = m.passes; words = words; views = set m.views k view }
+
+module _ (m : Machine) (e : Event) (v : View) (at : slice_get m.views (pass_of e) ≡ Some v) where
+  -- an event of a pass is allowed where its view allows it
+  pub allows_by : allows m e ≡ may m.passes m.rows m.words v e
+  allows_by = ap (allows_at m e) at
+
+  -- what an event leaves, where it is known whether the view allows it
+  pub after_by : (done : Bool) (words : List ℕ) (view : View) → done ≡ may m.passes m.rows m.words v e
+      → words ≡ cond done (words_after m.passes m.rows m.words v e) m.words
+      → view ≡ cond done (view_after m.passes m.rows m.words v e) v
+      → put m (pass_of e) words view ≡ after m e
+  after_by true words view ok same_words same_view =
+      ap (λ ws. put m (pass_of e) ws view) same_words ∙ ap (put m (pass_of e) (words_after m.passes m.rows m.words v e)) same_view
+      ∙ ap (after_at m e) (sym at)
+      ∙ ap (λ b. cond b (after_at m e (slice_get m.views (pass_of e))) m) (ok ∙ sym allows_by)
+  after_by false words view refused same_words same_view =
+      ap (λ ws. put m (pass_of e) ws view) same_words ∙ ap (put m (pass_of e) m.words) same_view
+      ∙ ap (λ us. record { rows = m.rows; passes = m.passes; words = m.words; views = us }) (set_again m.views (pass_of e) v (at_slice_get m.views (pass_of e) v at))
+      ∙ ap (λ b. cond b (after_at m e (slice_get m.views (pass_of e))) m) (refused ∙ sym allows_by)
+
+-- an event of a pass that is not there
+pub no_pass : (m : Machine) (e : Event) → length m.views ≤ pass_of e → (allows m e ≡ false) × (after m e ≡ m)
+no_pass m e past =
+    let none = slice_get_past m.views (pass_of e) past in
+    let refused : allows m e ≡ false = ap (allows_at m e) none in
+    (refused, ap (λ b. cond b (after_at m e (slice_get m.views (pass_of e))) m) refused)
+
+-- the view of a running pass
+pub slice_get-map : {A : Type 0} (f : A → View) (xs : List A) (i : ℕ) (d : A) → i < length xs → slice_get (map f xs) i ≡ Some (f (get_or xs i d))
+slice_get-map f [] i d inside = absurd (omega arith)
+slice_get-map f (x ∷ xs) zero d inside = refl
+slice_get-map f (x ∷ xs) (suc i) d inside = slice_get-map f xs i d (omega arith)
