@@ -5,6 +5,7 @@ use Rattle.std.specs.List.{list_any}
 use Rattle.std.proofs.Math.Logic.{∥∥₁_map}
 use Rattle.std.proofs.lemmas.Bool.{cases_eq, and_parts, ltb-true, false≢true}
 use Rattle.std.proofs.lemmas.Option.{slice_get_within, slice_get_past}
+use Rattle.std.proofs.lemmas.List.{length-map, map-set}
 use Rattle.era_core.specs.Lists.{is_in}
 use Rattle.era_core.specs.Words.{root_word, words_len, owner_at, reservation_at, cell_at, owner}
 use Rattle.era_core.specs.Views.{View, clears}
@@ -22,8 +23,8 @@ module _ (passes rows : ℕ) (ws : List ℕ) (long : length ws ≡ words_len pas
   stored_small x w row low r inside =
       ⊎_elim
       (λ e.
-          let P : ℕ → Type 0 = λ y. owner passes rows (set ws (owner_at passes rows x) w) y ≤ passes in
-          subst P (sym e) (omega (arith, owner_stored passes rows ws x w long row)))
+      let P : ℕ → Type 0 = λ y. owner passes rows (set ws (owner_at passes rows x) w) y ≤ passes in
+      subst P (sym e) (omega (arith, owner_stored passes rows ws x w long row)))
       (λ apart. omega (arith, owner_keeps_owner passes rows ws x w r apart, small r inside))
       (cases_eq r x)
 
@@ -84,7 +85,10 @@ module _ (m : Machine) (e : Event) (running : IsRunning m) where
   by_view : (o : Option View) → slice_get m.views (pass_of e) ≡ o → allows_at m e o ≡ true → ∥ ((cs : List Copy) × IsSound (after_at m e o) cs) ∥₁ → IsRunning (after_at m e o)
   by_view None is ok sound = absurd (false≢true ok)
   by_view (Some v) is ok sound = record {
-    some_row = running.some_row; few_rows = running.few_rows; some_pass = running.some_pass; few_passes = running.few_passes;
+    some_row = running.some_row;
+    few_rows = running.few_rows;
+    some_pass = running.some_pass;
+    few_passes = running.few_passes;
     long = length_after m.passes m.rows m.words running.long running.owners v e ∙ running.long;
     counted = length-set m.views (pass_of e) (view_after m.passes m.rows m.words v e) ∙ running.counted;
     owners = owners_after m.passes m.rows m.words running.long running.owners v e (omega (arith, slice_get_within m.views (pass_of e) v is, running.counted)) ok;
@@ -133,3 +137,36 @@ pub slice_get-map : {A : Type 0} (f : A → View) (xs : List A) (i : ℕ) (d : A
 slice_get-map f [] i d inside = absurd (omega arith)
 slice_get-map f (x ∷ xs) zero d inside = refl
 slice_get-map f (x ∷ xs) (suc i) d inside = slice_get-map f xs i d (omega arith)
+
+module _ {A : Type 0} (f : A → View) (passes rows : ℕ) (ws : List ℕ) (xs : List A) where
+  abbrev pub before : Machine
+  before = record { rows = rows; passes = passes; words = ws; views = map f xs }
+
+  -- what a running step shows: whether the event is allowed, what it leaves, and that what is kept is kept
+  pub record Stepped (e : Event) (ok : Bool) (us : List ℕ) (q : A) : Type 0 where
+    pub done : ok ≡ allows before e
+    pub next : record { rows = rows; passes = passes; words = us; views = map f (set xs (pass_of e) q) } ≡ after before e
+    pub running : IsRunning (record { rows = rows; passes = passes; words = us; views = map f (set xs (pass_of e) q) })
+
+  pub stepped : (e : Event) (done : Bool) (us : List ℕ) (p q : A) → IsRunning before → pass_of e < passes → p ≡ get_or xs (pass_of e) p
+      → done ≡ may passes rows ws (f p) e
+      → us ≡ cond done (words_after passes rows ws (f p) e) ws
+      → f q ≡ cond done (view_after passes rows ws (f p) e) (f p)
+      → Stepped e done us q
+  stepped e done us p q running inside is ok words view =
+      let within : pass_of e < length xs = omega (arith, length-map xs f, running.counted) in
+      let at : slice_get (map f xs) (pass_of e) ≡ Some (f p) = slice_get-map f xs (pass_of e) p within ∙ ap (λ (x : A). Some (f x)) (sym is) in
+      let m : Machine = before in
+      let moved : record { rows = rows; passes = passes; words = us; views = map f (set xs (pass_of e) q) } ≡ put before (pass_of e) us (f q) =
+      ap (λ views. record { rows = rows; passes = passes; words = us; views = views }) (map-set f xs (pass_of e) q) in
+      let next = moved ∙ after_by before e (f p) at done us (f q) ok words view in
+      record {
+        done = ok ∙ sym (allows_by before e (f p) at);
+        next = next;
+        running = subst IsRunning (sym next) (running_after before e running);
+      }
+
+-- a choice between equals
+pub either_way : {A : Type 0} (b : Bool) (x : A) → x ≡ cond b x x
+either_way true x = refl
+either_way false x = refl

@@ -151,7 +151,10 @@ module _ (passes rows : ℕ) where
 
   pub start_running : 0 < rows → rows ≤ 262144 → 0 < passes → passes ≤ 64 → IsRunning (start rows passes)
   start_running some_row few some_pass few_passes = record {
-    some_row = some_row; few_rows = few; some_pass = some_pass; few_passes = few_passes;
+    some_row = some_row;
+    few_rows = few;
+    some_pass = some_pass;
+    few_passes = few_passes;
     long = start_long;
     counted = length-start_views 0 passes;
     owners = λ r row. omega (arith, start_owners r);

@@ -10,6 +10,12 @@ batch_of_rows b = (b.version, b.rows.items)
 abbrev pub view_of : PassView → View
 view_of p =
     record {
-      number = Some p.number; noted = p.noted; pinned = p.pinned; fresh = p.fresh.items; retired = map batch_of_rows p.retired.items;
-      scanned = p.scanned; least = p.least; last = p.last;
+      number = Some p.number;
+      noted = p.noted;
+      pinned = p.pinned;
+      fresh = p.fresh.items;
+      retired = map batch_of_rows p.retired.items;
+      scanned = p.scanned;
+      least = p.least;
+      last = p.last;
     }

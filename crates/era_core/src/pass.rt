@@ -59,9 +59,7 @@ impl PassView {
     /// reservation.
     pub(crate) fn pin(&mut self, root: u64, reserved: u64) -> bool
         ensures done { result ≡ (is_none (view_of self.old).pinned && nat_lt 0 reserved) }
-        ensures next {
-            view_of self.new ≡ (if result then pinning (root / 2 ^ 24) (root % 2 ^ 24) (view_of self.old) else view_of self.old)
-        }
+        ensures next { view_of self.new ≡ (if result then pinning (root / 2 ^ 24) (root % 2 ^ 24) (view_of self.old) else view_of self.old) }
     {
         if self.pinned.is_some() || reserved == 0 {
             return false;
