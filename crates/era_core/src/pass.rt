@@ -1,7 +1,7 @@
 //! The view of a pass, as it runs.
 
-ghost use Rattle.std.specs.Prelude.{◌≡◌, ◌/◌, ◌%◌, ◌^◌, ◌&&◌, ◌==◌, nat_lt, is_none, is_some, if◌then◌else◌};
-ghost use Rattle.era_core.specs.Views.{start_view, noting, pinning, unpinning};
+ghost use Rattle.std.specs.Prelude.{◌≡◌, ◌/◌, ◌%◌, ◌^◌, ◌&&◌, ◌||◌, ◌==◌, ◌<◌, nat_lt, is_none, is_some, if◌then◌else◌};
+ghost use Rattle.era_core.specs.Views.{start_view, noting, pinning, unpinning, looking, reading, lesser, reserved as named_by};
 ghost use Rattle.era_core.specs.Passes.{view_of};
 
 use std::alloc::Global;
@@ -77,5 +77,40 @@ impl PassView {
         let pinned = self.pinned.is_some();
         self.pinned = None;
         pinned
+    }
+
+    /// Goes on with a scan, or begins one at pass 0, by the reservation found of the pass `other`.
+    pub(crate) fn look(&mut self, other: u32, reserved: u64) -> bool
+        requires { other < 2 ^ 31 }
+        ensures done { result ≡ ((other == 0) || (other == (view_of self.old).scanned)) }
+        ensures next { view_of self.new ≡ (if result then looking other reserved (view_of self.old) else view_of self.old) }
+    {
+        if other != 0 && other != self.scanned {
+            return false;
+        }
+        let before = if other == 0 { None } else { self.least };
+        self.scanned = other + 1;
+        self.least = lesser_of(before, reserved);
+        true
+    }
+
+    /// Remembers the word that a Read found.
+    pub(crate) fn read(&mut self, word: u64)
+        ensures { view_of self.new ≡ reading word (view_of self.old) }
+    {
+        self.last = Some(word);
+    }
+}
+
+// The lesser of a version and the one that a reservation names, where they are there.
+fn lesser_of(version: Option<u64>, reserved: u64) -> Option<u64>
+    ensures { result ≡ lesser version (named_by reserved) }
+{
+    if reserved == 0 {
+        return version;
+    }
+    match version {
+        None => Some(reserved - 1),
+        Some(least) => Some(least.min(reserved - 1)),
     }
 }

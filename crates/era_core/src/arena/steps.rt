@@ -3,7 +3,7 @@
 
 ghost use Rattle.std.specs.Prelude.{◌≡◌};
 ghost use Rattle.era_core.specs.Machine.{allows, after};
-ghost use Rattle.era_core.specs.declared.event.Event.TheVariants.{Note, Announce, Pin, Unpin};
+ghost use Rattle.era_core.specs.declared.event.Event.TheVariants.{Note, Pin, Look};
 
 use crate::arena::Core;
 
@@ -20,5 +20,32 @@ impl Core {
         let reserved = self.words[1 + pass as usize];
         let view = &mut self.views[pass as usize];
         view.note(root, reserved)
+    }
+
+    // Pins the version and the row at the root.
+    pub(crate) fn pin(&mut self, pass: u32) -> bool
+        ensures done { result ≡ allows self.old (Pin pass) }
+        ensures next { self.new ≡ after self.old (Pin pass) }
+    {
+        if pass >= self.passes {
+            return false;
+        }
+        let root = self.words[0];
+        let reserved = self.words[1 + pass as usize];
+        let view = &mut self.views[pass as usize];
+        view.pin(root, reserved)
+    }
+
+    // Looks at the reservation of another pass, or of its own.
+    pub(crate) fn look(&mut self, pass: u32, other: u32) -> bool
+        ensures done { result ≡ allows self.old (Look pass other) }
+        ensures next { self.new ≡ after self.old (Look pass other) }
+    {
+        if pass >= self.passes || other >= self.passes {
+            return false;
+        }
+        let reserved = self.words[1 + other as usize];
+        let view = &mut self.views[pass as usize];
+        view.look(other, reserved)
     }
 }
