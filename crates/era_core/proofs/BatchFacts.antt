@@ -1,11 +1,11 @@
 -- The rows and the versions of batches, and lists that rows have left.
-use Rattle.std.proofs.Common.{◌≡◌, ◌≢◌, ℕ, zero, suc, ◌+◌, ◌<◌, ◌≤◌, ◌⊎◌, ⊎_elim, inl, inr, Bool, true, false, not, cond, leb, ltb, List, [], ◌∷◌, ◌++◌, filter, refl, sym, ap, subst, ◌∙◌, arith, lt-ltb, le-ltb, le-leb}
+use Rattle.std.proofs.Common.{◌≡◌, ◌≢◌, ℕ, zero, suc, ◌+◌, ◌<◌, ◌≤◌, ◌⊎◌, ⊎_elim, inl, inr, Bool, true, false, not, cond, leb, List, [], ◌∷◌, ◌++◌, refl, sym, ap, subst, ◌∙◌, arith, lt-ltb, le-ltb}
 use Rattle.std.proofs.lemmas.Bool.{cases_eq, leb-true, and_parts, or_cases, ltb-true, false≢true}
-use Rattle.std.specs.Prelude.{◌&&◌, ◌||◌, Option, nat_eq}
+use Rattle.std.specs.Prelude.{◌&&◌, Option, nat_eq}
 use Rattle.std.specs.List.{list_any}
 use Rattle.era_core.specs.Lists.{times, In, is_in, without}
 use Rattle.era_core.specs.Views.{Batch, rows_in, versions_of, late, batch_of, without_row, clears}
-use Rattle.era_core.proofs.ListFacts.{times-append, times-head, times-tail, in_cases, in_head, in_tail}
+use Rattle.era_core.proofs.ListFacts.{times-append, times-tail, in_cases, in_head, in_tail}
 
 skip : (x y : ℕ) (b : Bool) (ys : List ℕ) → x ≢ y → times x (cond b (y ∷ ys) ys) ≡ times x ys
 skip x y true ys apart = times-tail x y ys apart

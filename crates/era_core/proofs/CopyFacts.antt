@@ -1,10 +1,10 @@
 -- The copy of a tree with all words of its rows stands, and is closed.
-use Rattle.std.proofs.Common.{◌≡◌, ◌≢◌, ℕ, zero, suc, ◌+◌, ◌/◌, ◌<◌, ◌≤◌, ◌⊎◌, ⊎_elim, inl, inr, min, Bool, true, cond, eqb, Option, Some, None, List, [], ◌∷◌, ◌++◌, flat_map, refl, sym, ap, subst, ◌∙◌, arith, eq-eqb, ne_eqb}
+use Rattle.std.proofs.Common.{◌≡◌, ◌≢◌, ℕ, zero, suc, ◌+◌, ◌<◌, ◌≤◌, ◌⊎◌, ⊎_elim, inl, inr, true, cond, eqb, Some, List, [], ◌∷◌, ◌++◌, flat_map, refl, sym, ap, subst, ◌∙◌, arith, eq-eqb, ne_eqb}
 use Rattle.std.specs.Prelude.{◌&&◌, is_some, unwrap_or}
 use Rattle.std.proofs.lemmas.Bool.{cases_eq}
-use Rattle.era_core.specs.Lists.{times, In, tree}
-use Rattle.era_core.specs.Words.{links_by, cell, links, tree_at}
-use Rattle.era_core.specs.Versions.{Cell, Copy, look_up, known, known_links, IsClosed, Covers, Stands, cells_from, copy_at}
+use Rattle.era_core.specs.Lists.{times, In}
+use Rattle.era_core.specs.Words.{cell, links, tree_at}
+use Rattle.era_core.specs.Versions.{Cell, look_up, known, known_links, IsClosed, Stands, cells_from, copy_at}
 use Rattle.era_core.proofs.ListFacts.{in_cases, in_head, in_tail}
 use Rattle.era_core.proofs.WordFacts.{links_by-same}
 use Rattle.era_core.proofs.TreeFacts.{tree_same}
@@ -65,12 +65,13 @@ module _ (passes rows : ℕ) (ws : List ℕ) where
   pub copy_stands : (q : ℕ) → Stands passes rows ws (copy_at passes rows ws q).cells
   copy_stands q i c there = (from_rows (tree_at passes rows ws q) i c there).2
 
-  pub copy_closed : (q : ℕ) → IsClosed rows (copy_at passes rows ws q)
-  copy_closed q =
+  pub copy_closed : (q : ℕ) → ((r : ℕ) → times r (tree_at passes rows ws q) ≤ 1) → IsClosed rows (copy_at passes rows ws q)
+  copy_closed q once =
       let xs = tree_at passes rows ws q in
       let cells : List Cell = cells_of xs in
       let same : (r p : ℕ) → In r xs → p < 40 → known cells r p ≡ cell passes rows ws r p = λ r p here place. ap (λ o. unwrap_or o 0) (look_up_rows xs r p here place) in
       record {
+        once = once;
         within = λ i c there. (from_rows xs i c there).0;
         placed = λ i c there. (from_rows xs i c there).1;
         covers = λ r here p below. copy_whole q r p here (omega arith);

@@ -1,14 +1,14 @@
 -- Free keeps what is sound: of a fresh row, and of a retired one that a whole scan has cleared.
-use Rattle.std.proofs.Common.{◌≡◌, ◌≢◌, ℕ, zero, suc, ◌+◌, ◌*◌, ◌/◌, ◌%◌, ◌^◌, ◌<◌, ◌≤◌, ◌⊎◌, ⊎_elim, inl, inr, Bool, true, false, cond, ltb, Option, Some, None, List, [], ◌∷◌, ◌++◌, length, set, slice_index, refl, sym, ap, subst, ◌∙◌, arith, length-set, lt-ltb, le-ltb}
+use Rattle.std.proofs.Common.{◌≡◌, ◌≢◌, ℕ, ◌+◌, ◌/◌, ◌%◌, ◌^◌, ◌<◌, ◌≤◌, ⊎_elim, inl, inr, true, cond, Some, List, [], ◌∷◌, set, slice_index, refl, sym, ap, subst, ◌∙◌, arith, length-set, lt-ltb, le-ltb}
 use Rattle.std.specs.Prelude.{◌&&◌}
 use Rattle.std.specs.List.{list_any}
 use Rattle.std.proofs.lemmas.Bool.{cases_eq, cases_lt, false≢true}
 use Rattle.era_core.specs.Lists.{times, In, is_in, total, without}
-use Rattle.era_core.specs.Words.{version, root_row, words_len, owner_at, reservation, owner, cell, tree_at, live}
+use Rattle.era_core.specs.Words.{version, root_row, owner_at, reservation, cell, tree_at, live}
 use Rattle.era_core.specs.Views.{Batch, View, start_view, rows_in, versions_of, late, held, clears, freeing, without_row}
 use Rattle.era_core.specs.Versions.{Cell, Copy, Stands}
 use Rattle.era_core.specs.Sound.{Scans, owned, IsKept, IsPinned, Fits, Sound}
-use Rattle.era_core.proofs.ListFacts.{times-append, times-head, times-tail, in_head, total-le, total-set, total-le_total, at_set, set_here}
+use Rattle.era_core.proofs.ListFacts.{times-append, times-tail, in_head, total-le, total-set, total-le_total, at_set}
 use Rattle.era_core.proofs.WordFacts.{owner_keeps_root, owner_keeps_reservation, owner_keeps_owner, owner_stored, owner_keeps_cell}
 use Rattle.era_core.proofs.TreeFacts.{tree_stays}
 use Rattle.era_core.proofs.BatchFacts.{times-without_gone, times-without_kept, times-late-le, times-rows_in-without_row, times-late-without_row, times-rows_in-row_gone, versions_of-without_row, cleared_there, late_cleared}

@@ -1,6 +1,6 @@
 -- While a pass is pinned, its version stands, whatever the others do.
-use Rattle.std.proofs.Common.{◌≡◌, ◌≢◌, ℕ, zero, suc, ◌+◌, ◌<◌, ◌≤◌, ◌⊎◌, ⊎_elim, inl, inr, Bool, true, false, not, cond, eqb, Option, Some, None, List, [], ◌∷◌, ◌++◌, set, refl, sym, ap, subst, ◌∙◌, arith, eq-eqb}
-use Rattle.std.specs.Prelude.{◌&&◌, is_none, nat_lt, slice_get, option_and_then}
+use Rattle.std.proofs.Common.{◌≡◌, ◌≢◌, ℕ, zero, suc, ⊎_elim, Bool, true, false, not, cond, eqb, Option, Some, None, List, [], ◌∷◌, ◌++◌, set, refl, sym, ap, subst, ◌∙◌, eq-eqb}
+use Rattle.std.specs.Prelude.{is_none, nat_lt, slice_get, option_and_then}
 use Rattle.std.specs.List.{list_all}
 use Rattle.std.proofs.lemmas.Bool.{and_parts, cases_eq, false≢true}
 use Rattle.std.proofs.lemmas.Option.{same_Some, none-some}
@@ -8,12 +8,12 @@ use Rattle.era_core.specs.Lists.{In, is_in, without}
 use Rattle.era_core.specs.Words.{reservation, owner}
 use Rattle.era_core.specs.Views.{View, taking, without_row}
 use Rattle.era_core.specs.Versions.{Copy, copy_at, look_up}
-use Rattle.era_core.specs.Machine.{Machine, IsSound, VersionStands, pass_of, may, finds_pinned, view_published, view_after, versions_after, allows, allows_at, after, after_at, copies_at, copies_after, play, copies, owner_of, cell_of, tree_of, pin_of, published_word, keeps_pin}
+use Rattle.era_core.specs.Machine.{Machine, IsSound, VersionStands, pass_of, may, finds_pinned, view_published, view_after, versions_after, allows, allows_at, after, after_at, copies_at, copies_after, play, copies, cell_of, tree_of, pin_of, published_word, keeps_pin}
 use Rattle.era_core.specs.declared.event.Event.{Event}
 use Rattle.era_core.specs.declared.event.Event.TheVariants.{Note, Announce, Pin, Read, Take, Write, Publish, Unpin, Look, Free}
 use Rattle.era_core.proofs.ListFacts.{at_longer}
-use Rattle.era_core.proofs.Runs.{none_from, after_sound, play_sound}
-use Rattle.era_core.proofs.Readers.{Reader, reader, slice_get_at, slice_get_set, pinned_owned, pinned_word}
+use Rattle.era_core.proofs.Runs.{none_from, play_sound}
+use Rattle.era_core.proofs.Readers.{reader, slice_get_at, slice_get_set, pinned_owned, pinned_word}
 use mathlib.Core.Option.{some, some-injective}
 use lib.ListN.{get_elem?}
 

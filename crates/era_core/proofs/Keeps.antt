@@ -1,12 +1,12 @@
 -- Eight of the ten events keep what is sound: all but Free and Publish. Each is a step that leaves all shared words.
-use Rattle.std.proofs.Common.{◌≡◌, ◌≢◌, ℕ, zero, suc, ◌+◌, ◌-◌, ◌*◌, ◌/◌, ◌%◌, ◌^◌, ◌<◌, ◌≤◌, min, ◌⊎◌, ⊎_elim, inl, inr, Bool, true, false, cond, ltb, eqb, ◌&&◌, Option, Some, None, List, [], ◌∷◌, ◌++◌, length, set, slice_index, refl, sym, ap, subst, ◌∙◌, arith, length-set, lt-ltb, le-ltb, eq-eqb, ne_eqb}
+use Rattle.std.proofs.Common.{◌≡◌, ◌≢◌, ℕ, zero, suc, ◌+◌, ◌-◌, ◌<◌, ◌≤◌, min, ◌⊎◌, ⊎_elim, inl, inr, Bool, true, false, cond, ltb, eqb, ◌&&◌, Option, Some, None, List, [], ◌∷◌, set, refl, sym, ap, subst, ◌∙◌, arith, length-set, lt-ltb, le-ltb, ne_eqb}
 use Rattle.std.proofs.lemmas.Bool.{cases_eq, cases_lt, ltb-false, true≢false}
 use Rattle.std.proofs.lemmas.Option.{same_Some, none-some}
-use Rattle.era_core.specs.Lists.{times, In, total}
-use Rattle.era_core.specs.Words.{version, root_row, words_len, reservation_at, owner_at, cell_at, reservation, owner, cell, live}
-use Rattle.era_core.specs.Views.{Batch, View, rows_in, versions_of, held, reserved, lesser, clears, noting, pinning, reading, taking, unpinning, looking}
-use Rattle.era_core.specs.Versions.{Cell, Copy, Stands}
-use Rattle.era_core.specs.Sound.{Scans, owned, IsKept, IsPinned, Fits, Sound}
+use Rattle.era_core.specs.Lists.{times, In}
+use Rattle.era_core.specs.Words.{version, root_row, reservation_at, owner_at, cell_at, reservation, owner, live}
+use Rattle.era_core.specs.Views.{View, rows_in, held, reserved, lesser, clears, noting, pinning, reading, taking, unpinning, looking}
+use Rattle.era_core.specs.Versions.{Copy}
+use Rattle.era_core.specs.Sound.{Scans, owned, IsPinned, Fits, Sound}
 use Rattle.era_core.proofs.ListFacts.{times-append, times-head, times-tail, total-le, total-add, at_set}
 use Rattle.era_core.proofs.WordFacts.{owner_keeps_root, owner_keeps_reservation, owner_keeps_owner, owner_stored, owner_keeps_cell, reservation_keeps_root, reservation_keeps_other, reservation_stored, reservation_keeps_owner, reservation_keeps_cell, cell_keeps_root, cell_keeps_reservation, cell_keeps_owner, cell_keeps_other}
 use Rattle.era_core.proofs.Stays.{IsShared, LeavesShared, stays, pin_same, kept_same, version_same}

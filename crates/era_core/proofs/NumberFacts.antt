@@ -1,5 +1,5 @@
 -- Views keep their numbers where one of them is written with its own number again.
-use Rattle.std.proofs.Common.{◌≡◌, ◌≢◌, ℕ, ⊎_elim, Option, Some, List, set, sym, ap, ◌∙◌}
+use Rattle.std.proofs.Common.{◌≡◌, ◌≢◌, ℕ, ⊎_elim, Some, List, set, sym, ap, ◌∙◌}
 use Rattle.std.proofs.lemmas.Bool.{cases_eq}
 use Rattle.era_core.specs.Views.{View}
 use Rattle.era_core.proofs.ListFacts.{at_set, set_here, set_else}

@@ -1,13 +1,13 @@
 -- Publish keeps what is sound, with the new tree's copy at the end of the versions.
-use Rattle.std.proofs.Common.{◌≡◌, ◌≢◌, ℕ, zero, suc, ◌+◌, ◌*◌, ◌/◌, ◌%◌, ◌^◌, ◌<◌, ◌≤◌, ◌⊎◌, ⊎_elim, inl, inr, Bool, true, false, cond, leb, Option, Some, None, List, [], ◌∷◌, ◌++◌, length, set, slice_index, refl, sym, ap, subst, ◌∙◌, arith, length-set, length-append, get_or-set_same, le-leb}
-use Rattle.std.proofs.lemmas.Bool.{cases_eq, cases_lt}
+use Rattle.std.proofs.Common.{◌≡◌, ℕ, zero, suc, ◌+◌, ◌/◌, ◌%◌, ◌^◌, ◌<◌, ◌≤◌, ◌⊎◌, ⊎_elim, inl, inr, cond, leb, Some, List, [], ◌∷◌, ◌++◌, length, set, slice_index, refl, sym, ap, subst, ◌∙◌, arith, length-set, length-append, get_or-set_same, le-leb}
+use Rattle.std.proofs.lemmas.Bool.{cases_eq}
 use Rattle.std.proofs.lemmas.Option.{same_Some, none-some}
-use Rattle.era_core.specs.Lists.{times, In, total, without}
-use Rattle.era_core.specs.Words.{root_word, version, root_row, words_len, reservation, owner, cell, tree_at, live}
+use Rattle.era_core.specs.Lists.{times, In, without}
+use Rattle.era_core.specs.Words.{root_word, version, root_row, reservation, tree_at, live}
 use Rattle.era_core.specs.Views.{Batch, View, rows_in, versions_of, late, held, batch_of, publishing}
 use Rattle.era_core.specs.Versions.{Cell, Copy, IsClosed, Stands, known_links}
-use Rattle.era_core.specs.Sound.{Scans, owned, IsKept, IsPinned, Fits, Sound}
-use Rattle.era_core.proofs.ListFacts.{times-append, in_cases, total-le, total-set, total-le_total, at_set, set_here, at_push, at_below, at_within}
+use Rattle.era_core.specs.Sound.{Scans, IsKept, IsPinned, Fits, Sound}
+use Rattle.era_core.proofs.ListFacts.{times-append, total-le, total-set, total-le_total, at_set, at_push, at_below, at_within}
 use Rattle.era_core.proofs.WordFacts.{root_keeps_reservation, root_keeps_owner, root_keeps_cell}
 use Rattle.era_core.proofs.TreeFacts.{tree_stays, tree_root}
 use Rattle.era_core.proofs.BatchFacts.{times-without_gone, times-without_kept, times-late-append, times-rows_in-append, times-rows_in-batch_of, times-late-batch_of, times-versions_of-append, versions_of-batch_of}
@@ -43,7 +43,6 @@ module _ (passes rows : ℕ) where
 
   module _ (ws : List ℕ) (vs : List View) (cs : List Copy) (sound : Sound passes rows ws vs cs) (i k : ℕ) (v : View) (at : get_elem? vs i ≡ some v) (mine : v.number ≡ Some k)
       (n p q : ℕ) (pinned : v.pinned ≡ Some (n, p)) (found : slice_index ws 0 ≡ root_word n p) (few : rows ≤ 2 ^ 24) (fresh_root : In q v.fresh)
-      (once : (x : ℕ) → times x (tree_at passes rows ws q) ≤ 1)
       (parts : (x : ℕ) → In x (tree_at passes rows ws q) → In x v.fresh ⊎ In x (tree_at passes rows ws p))
       (c : Copy) (root_is : c.root ≡ q) (rows_are : c.rows ≡ tree_at passes rows ws q) (stands : Stands passes rows ws c.cells) (closed : IsClosed rows c) where
     abbrev us : List ℕ
@@ -66,6 +65,9 @@ module _ (passes rows : ℕ) where
 
     pin : IsPinned passes rows ws vs cs k v.retired n p
     pin = own.pin k n p mine pinned
+
+    once : (x : ℕ) → times x new ≤ 1
+    once x = let P : List ℕ → Type 0 = λ xs. times x xs ≤ 1 in subst P rows_are (closed.once x)
 
     p_small : p < 2 ^ 24
     p_small = omega (arith, pin_within ws vs cs sound k n p v.retired pin)

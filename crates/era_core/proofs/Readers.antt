@@ -1,18 +1,16 @@
 -- What soundness gives a reader: its version stands, and no row of it is given out again.
-use Rattle.std.proofs.Common.{◌≡◌, ◌≢◌, ℕ, zero, suc, ◌+◌, ◌/◌, ◌<◌, ◌≤◌, ◌⊎◌, ⊎_elim, inl, inr, min, Bool, true, false, not, cond, eqb, ltb, Option, Some, None, List, [], ◌∷◌, ◌++◌, length, set, refl, sym, ap, subst, ◌∙◌, arith, lt-ltb, ne_eqb}
+use Rattle.std.proofs.Common.{◌≡◌, ◌≢◌, ℕ, zero, suc, ◌+◌, ◌<◌, ◌≤◌, Bool, true, false, cond, eqb, ltb, Option, Some, None, List, [], ◌∷◌, set, refl, sym, ap, subst, ◌∙◌, arith, lt-ltb, ne_eqb}
 use Rattle.std.specs.Prelude.{◌&&◌, ◌||◌, is_some, unwrap_or, slice_get, option_and_then, option_map}
-use Rattle.std.specs.List.{list_all}
-use Rattle.std.proofs.lemmas.Bool.{and_parts, and_from, or_right, or_left, cases_cond, eqb-true, false≢true, true≢false, cases_eq, cases_Bool}
+use Rattle.std.proofs.lemmas.Bool.{and_parts, and_from, or_left, eqb-true}
 use Rattle.std.proofs.lemmas.Option.{same_Some, none-some}
-use Rattle.era_core.specs.Lists.{times, In, is_in, tree, total}
-use Rattle.era_core.specs.Words.{links, links_by, owner_at, owner, cell, tree_at, version}
-use Rattle.era_core.specs.Views.{View, rows_in, held, taking, without_row}
-use Rattle.era_core.specs.Versions.{Cell, Copy, look_up, known, known_links, Covers, IsClosed, Stands}
-use Rattle.era_core.specs.Sound.{IsPinned, Fits, Sound, owned}
-use Rattle.era_core.specs.Machine.{Machine, IsSound, may, view_after, pinned_rows, allows, allows_at, after, after_at, copies_after, play, copies, owner_of, cell_of, tree_of, pin_of, fresh_of, last_of, published_word, keeps_pin}
-use Rattle.era_core.specs.declared.event.Event.{Event}
-use Rattle.era_core.specs.declared.event.Event.TheVariants.{Note, Announce, Pin, Read, Take, Write, Publish, Unpin, Look, Free}
-use Rattle.era_core.proofs.ListFacts.{at_below, set_here, total-le_total, times-append}
+use Rattle.era_core.specs.Lists.{times, In, is_in, tree}
+use Rattle.era_core.specs.Words.{links, owner_at, owner, cell, tree_at, version}
+use Rattle.era_core.specs.Views.{View, rows_in, held}
+use Rattle.era_core.specs.Versions.{Cell, Copy, look_up, known, known_links, Covers, Stands}
+use Rattle.era_core.specs.Sound.{IsPinned, Sound}
+use Rattle.era_core.specs.Machine.{Machine, IsSound, may, view_after, pinned_rows, allows, allows_at, after, after_at, owner_of, cell_of, tree_of, pin_of, fresh_of, last_of, published_word}
+use Rattle.era_core.specs.declared.event.Event.TheVariants.{Read, Take}
+use Rattle.era_core.proofs.ListFacts.{at_below, total-le_total, times-append}
 use Rattle.era_core.proofs.WordFacts.{links_by-counted}
 use Rattle.era_core.proofs.TreeFacts.{tree_same}
 use Rattle.era_core.proofs.Stays.{kept_shared, IsShared}
@@ -190,3 +188,14 @@ taken_unread m cs is_sound k r j n root changed pinned here =
     by_test : (b : Bool) → owner_of (cond b (after_at m (Take k r) (slice_get m.views k)) m) r ≡ owner_of m r
     by_test true = stays_owned (slice_get m.views k)
     by_test false = refl
+
+-- no row stands twice in a pinned tree, so a walk of it visits no more rows than there are
+pub pinned_once : (m : Machine) (cs : List Copy) → IsSound m cs → (k n root : ℕ) → pin_of m k ≡ Some (n, root) → (r : ℕ) → times r (tree_of m root) ≤ 1
+pinned_once m cs is_sound k n root pinned r =
+    let t = reader m cs is_sound k n root pinned in
+    let P : List ℕ → Type 0 = λ xs. times r xs ≤ 1 in
+    subst P (sym t.rows_are) ((is_sound.sound.closed n t.copy t.there).once r)
+
+-- what a pass has noted is no later than the root's version
+pub noted_low : (m : Machine) (cs : List Copy) → IsSound m cs → (k n : ℕ) (v : View) → slice_get m.views k ≡ Some v → v.noted ≡ Some n → n ≤ version m.words
+noted_low m cs is_sound k n v at noted = (is_sound.sound.each k v (at_slice_get m.views k v at)).noted n noted

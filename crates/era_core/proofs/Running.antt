@@ -1,5 +1,5 @@
 -- What the running machine keeps, it keeps at every event.
-use Rattle.std.proofs.Common.{◌≡◌, ◌≢◌, ℕ, ◌+◌, ◌<◌, ◌≤◌, ⊎_elim, Bool, true, false, cond, eqb, ltb, Option, Some, None, List, [], ◌∷◌, map, get_or, zero, suc, length, set, refl, sym, ap, subst, ◌∙◌, arith, length-set}
+use Rattle.std.proofs.Common.{◌≡◌, ℕ, ◌+◌, ◌<◌, ◌≤◌, ⊎_elim, Bool, true, false, cond, eqb, ltb, Option, Some, None, List, [], ◌∷◌, map, get_or, zero, suc, length, set, refl, sym, ap, subst, ◌∙◌, arith, length-set}
 use Rattle.std.specs.Prelude.{◌&&◌, ◌||◌, slice_get}
 use Rattle.std.specs.List.{list_any}
 use Rattle.std.proofs.Math.Logic.{∥∥₁_map}

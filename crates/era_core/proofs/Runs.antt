@@ -1,11 +1,11 @@
 -- Every event keeps a machine sound, so every schedule leaves a sound one.
-use Rattle.std.proofs.Common.{◌≡◌, ◌≢◌, ℕ, zero, suc, ◌+◌, ◌-◌, ◌*◌, ◌/◌, ◌%◌, ◌^◌, ◌<◌, ◌≤◌, ◌⊎◌, ⊎_elim, inl, inr, Bool, true, false, cond, eqb, ltb, leb, Option, Some, None, List, [], ◌∷◌, ◌++◌, length, set, slice_index, refl, sym, ap, subst, ◌∙◌, arith, length-set}
+use Rattle.std.proofs.Common.{◌≡◌, ℕ, zero, suc, ◌+◌, ◌-◌, ◌^◌, ◌<◌, ◌≤◌, ⊎_elim, inl, inr, Bool, true, false, cond, eqb, ltb, Option, Some, None, List, [], ◌∷◌, ◌++◌, set, slice_index, refl, sym, ap, subst, ◌∙◌, arith, length-set}
 use Rattle.std.specs.Prelude.{◌&&◌, ◌||◌, is_none, is_some, slice_get}
 use Rattle.std.specs.List.{list_all, list_any}
 use Rattle.std.proofs.lemmas.Bool.{and_parts, or_cases, eqb-true, ltb-true, false≢true}
 use Rattle.std.proofs.lemmas.Option.{same_Some, none-some}
 use Rattle.era_core.specs.Lists.{times, In, is_in, all_different, without}
-use Rattle.era_core.specs.Words.{root_word, version, root_row, reservation_at, owner_at, reservation, owner, cell, tree_at}
+use Rattle.era_core.specs.Words.{root_word, owner_at, reservation, owner, cell, tree_at}
 use Rattle.era_core.specs.Views.{View, clears, taking, without_row}
 use Rattle.era_core.specs.Versions.{Copy, copy_at, look_up}
 use Rattle.era_core.specs.Sound.{Sound}
@@ -73,13 +73,12 @@ module _ (passes rows : ℕ) (few : rows ≤ 262144) (ws : List ℕ) (vs : List 
       let d = and_parts (are_linked passes rows ws new) (all_different new) c.0 in
       publishes passes rows ws vs cs sound k k v at mine pin.0 pin.1 q pinned (eqb-true (slice_index ws 0) (root_word pin.0 pin.1) is) (omega arith)
       (ltb-true 0 (times q v.fresh) b.1)
-      (different_once new d.1)
       (λ x here.
       ⊎_elim
       (λ fresh. inl (ltb-true 0 (times x v.fresh) fresh))
       (λ kept. inr (ltb-true 0 (times x old) kept))
       (or_cases (is_in x v.fresh) (is_in x old) (list_all-in (λ y. is_in y v.fresh || is_in y old) new x c.1 here)))
-      (copy_at passes rows ws q) refl refl (copy_stands passes rows ws q) (copy_closed passes rows ws q)
+      (copy_at passes rows ws q) refl refl (copy_stands passes rows ws q) (copy_closed passes rows ws q (different_once new d.1))
 
   -- each event that is allowed keeps what is sound
   pub event_sound : (e : Event) (v : View) → get_elem? vs (pass_of e) ≡ some v → v.number ≡ Some (pass_of e) → may passes rows ws v e ≡ true

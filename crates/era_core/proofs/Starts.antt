@@ -1,15 +1,15 @@
 -- The start is sound.
-use Rattle.std.proofs.Common.{◌≡◌, ◌≢◌, ℕ, zero, suc, ◌+◌, ◌*◌, ◌/◌, ◌%◌, ◌^◌, ◌<◌, ◌≤◌, ◌⊎◌, ⊎_elim, inl, inr, min, Bool, true, cond, Option, Some, None, List, [], ◌∷◌, ◌++◌, flat_map, length, set, get_or, slice_index, replicate, refl, sym, ap, subst, ◌∙◌, arith, length-set}
+use Rattle.std.proofs.Common.{◌≡◌, ◌≢◌, ℕ, zero, suc, ◌+◌, ◌/◌, ◌%◌, ◌^◌, ◌<◌, ◌≤◌, ⊎_elim, min, true, List, [], ◌∷◌, flat_map, length, set, slice_index, replicate, refl, sym, ap, subst, ◌∙◌, arith, length-set}
 use Rattle.std.specs.Prelude.{is_some}
 use Rattle.std.proofs.lemmas.List.{length-replicate}
 use Rattle.std.proofs.lemmas.Bool.{cases_eq}
 use Rattle.std.proofs.lemmas.Option.{same_Some, none-some}
 use Rattle.era_core.specs.Lists.{times, In, total, tree}
 use Rattle.era_core.specs.Words.{version, root_row, words_len, owner_at, reservation_at, cell_at, reservation, owner, cell, links, run_of, tree_at, live, start_words}
-use Rattle.era_core.specs.Views.{View, start_view, rows_in, versions_of, held}
+use Rattle.era_core.specs.Views.{View, start_view, held}
 use Rattle.era_core.specs.Versions.{Copy, copy_at, look_up, IsClosed, Stands}
-use Rattle.era_core.specs.Sound.{Scans, owned, IsPinned, Fits, Sound}
-use Rattle.era_core.specs.Machine.{Machine, start, start_views, start_copies, owner_of, IsSound, IsRunning}
+use Rattle.era_core.specs.Sound.{Scans, owned, Fits, Sound}
+use Rattle.era_core.specs.Machine.{start, start_views, start_copies, owner_of, IsSound, IsRunning}
 use Rattle.era_core.proofs.ListFacts.{times-head, times-tail, at_push}
 use Rattle.era_core.proofs.WordFacts.{owner_keeps_root, owner_keeps_reservation, owner_keeps_owner, owner_stored, owner_keeps_cell}
 use Rattle.era_core.proofs.Keeps.{owned_free, owned_taken}
@@ -101,6 +101,12 @@ module _ (passes rows : ℕ) where
   view_at : (i : ℕ) (v : View) → get_elem? (start_views 0 passes) i ≡ some v → (start_view i ≡ v) × (i < passes)
   view_at i v there = let one = at_start 0 passes i v there in (ap start_view (let e : i ≡ 0 + i = omega arith in e) ∙ one.0, one.1)
 
+  start_once : 0 < rows → (r : ℕ) → times r (tree_at passes rows ws 0) ≤ 1
+  start_once some_row r =
+      let e : tree_at passes rows ws 0 ≡ 0 ∷ [] = ap (tree_at passes rows ws) (sym start_row) ∙ start_live some_row in
+      let P : List ℕ → Type 0 = λ xs. times r xs ≤ 1 in
+      subst P (sym e) (⊎_elim (λ same. omega (arith, (let Q : ℕ → Type 0 = λ y. times y (0 ∷ []) ≡ 1 in let Z : times 0 (0 ∷ []) ≡ 1 = times-head 0 [] in subst Q (sym same) Z))) (λ apart. omega (arith, times-tail r 0 [] apart)) (cases_eq r 0))
+
   pub start_sound : 0 < rows → Sound passes rows ws (start_views 0 passes) (start_copies rows passes)
   start_sound some_row = record {
     long = start_long;
@@ -125,7 +131,7 @@ module _ (passes rows : ℕ) where
         a ∙ sym b;
     silent = λ k pass none. start_reservation k pass;
     scans = λ i j u v ui vj. subst (λ (x : View). Scans u x) (view_at j v vj).0 (λ m n r b is pinned seen here low. absurd (omega arith));
-    closed = λ n c there. subst (IsClosed rows) (one_copy n c there) (copy_closed passes rows ws 0);
+    closed = λ n c there. subst (IsClosed rows) (one_copy n c there) (copy_closed passes rows ws 0 (start_once some_row));
   }
 
   pub starts : 0 < rows → rows ≤ 262144 → IsSound (start rows passes) (start_copies rows passes)

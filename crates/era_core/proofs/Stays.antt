@@ -1,14 +1,14 @@
 -- A step that leaves all that other passes can read: the root, their reservations, and the words of live and retired rows.
-use Rattle.std.proofs.Common.{◌≡◌, ◌≢◌, ℕ, ◌+◌, ◌*◌, ◌/◌, ◌%◌, ◌^◌, ◌<◌, ◌≤◌, ◌⊎◌, ⊎_elim, inl, inr, false, Option, Some, None, List, length, set, slice_index, refl, sym, ap, subst, ◌∙◌, arith}
+use Rattle.std.proofs.Common.{◌≡◌, ◌≢◌, ℕ, ◌+◌, ◌/◌, ◌%◌, ◌^◌, ◌<◌, ◌⊎◌, ⊎_elim, inl, inr, Some, List, length, set, slice_index, sym, ap, subst, ◌∙◌, arith}
 use Rattle.era_core.specs.Lists.{times, In, total}
-use Rattle.era_core.specs.Words.{version, root_row, words_len, reservation, cell, tree_at, live}
-use Rattle.era_core.specs.Views.{Batch, View, rows_in, versions_of, late, held, clears}
-use Rattle.era_core.specs.Versions.{Cell, Copy, IsClosed, Stands}
+use Rattle.era_core.specs.Words.{version, root_row, reservation, cell, tree_at, live}
+use Rattle.era_core.specs.Views.{Batch, View, rows_in, late, held}
+use Rattle.era_core.specs.Versions.{Copy, Stands}
 use Rattle.era_core.specs.Sound.{Scans, owned, IsKept, IsPinned, Fits, Sound}
 use Rattle.era_core.proofs.ListFacts.{times-append, total-set, total-le_total, at_set, set_here}
 use Rattle.era_core.proofs.BatchFacts.{times-late-le}
 use Rattle.era_core.proofs.TreeFacts.{tree_stays}
-use Rattle.era_core.proofs.NumberFacts.{IsApart, apart_still, none_before}
+use Rattle.era_core.proofs.NumberFacts.{apart_still, none_before}
 use mathlib.Core.Option.{some}
 use lib.ListN.{get_elem?}
 

@@ -1,8 +1,8 @@
 -- A tree, and a copy of it, are given by the words of the tree's own rows alone.
-use Rattle.std.proofs.Common.{◌≡◌, ◌≢◌, ℕ, zero, suc, ◌+◌, ◌<◌, ◌≤◌, ⊎_elim, List, [], ◌∷◌, ◌++◌, flat_map, refl, sym, ap, subst, ◌∙◌, arith}
-use Rattle.era_core.specs.Lists.{times, In, tree}
-use Rattle.era_core.specs.Words.{links_by, cell, links, tree_at, live, root_row}
-use Rattle.era_core.proofs.ListFacts.{times-append, in-append_left, in-append_right, in_cases, in_head, in_tail}
+use Rattle.std.proofs.Common.{◌≡◌, ℕ, zero, suc, ◌<◌, ⊎_elim, List, [], ◌∷◌, ◌++◌, flat_map, refl, ap, subst, ◌∙◌, arith}
+use Rattle.era_core.specs.Lists.{In, tree}
+use Rattle.era_core.specs.Words.{cell, links, tree_at}
+use Rattle.era_core.proofs.ListFacts.{in-append_left, in-append_right, in_cases, in_head, in_tail}
 use Rattle.era_core.proofs.WordFacts.{links_by-same}
 
 -- a row of one of the joined lists is a row of them all

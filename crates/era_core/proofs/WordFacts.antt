@@ -1,6 +1,6 @@
 -- A store of one word leaves all others as they are.
-use Rattle.std.proofs.Common.{◌≡◌, ◌≢◌, ℕ, zero, suc, ◌+◌, ◌*◌, ◌/◌, ◌%◌, ◌^◌, ◌<◌, ◌≤◌, min, List, [], ◌∷◌, length, set, get_or, slice_index, slice_set, refl, sym, ap, ◌∙◌, arith, get_or-set_same, get_or-set_other, length-set}
-use Rattle.era_core.specs.Words.{root_word, version, root_row, run_of, links_by, reservation_at, owner_at, cell_at, words_len, reservation, owner, cell, links}
+use Rattle.std.proofs.Common.{◌≡◌, ◌≢◌, ℕ, zero, suc, ◌+◌, ◌/◌, ◌<◌, min, List, ◌∷◌, length, set, slice_index, refl, ap, ◌∙◌, arith, get_or-set_same, get_or-set_other}
+use Rattle.era_core.specs.Words.{run_of, links_by, reservation_at, owner_at, cell_at, words_len, reservation, owner, cell}
 
 -- the links of a row are given by its first 40 words
 pub run_of-same : (f g : ℕ → ℕ) (p n : ℕ) → ((q : ℕ) → q < p + n → f q ≡ g q) → run_of f p n ≡ run_of g p n

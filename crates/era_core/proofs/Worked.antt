@@ -1,5 +1,5 @@
 -- The worked schedules, computed on the definitions.
-use Rattle.std.proofs.Common.{◌≡◌, ℕ, Option, Some, None, List, [], ◌∷◌, ◌++◌, refl}
+use Rattle.std.proofs.Common.{◌≡◌, Some, None, [], ◌∷◌, ◌++◌, refl}
 use Rattle.era_core.specs.Machine.{play, first_refused, last_of}
 use Rattle.era_core.specs.Schedules.{first_publication, whole, too_soon, given_back, pin_of_0, beaten, small, root_of, owners_of, reservations_of}
 use Rattle.era_core.specs.declared.event.Event.TheVariants.{Note, Announce, Pin, Read, Take, Write, Publish, Unpin, Look, Free}

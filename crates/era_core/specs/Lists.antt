@@ -1,5 +1,5 @@
 -- Lists of rows, how often a row stands in one, and the tree that links make.
-use Rattle.std.specs.Prelude.{ℕ, zero, suc, ◌+◌, ◌<◌, Bool, not, nat_lt, ◌==◌, if◌then◌else◌, List, [], ◌∷◌, ◌++◌, filter, flat_map}
+use Rattle.std.specs.Prelude.{ℕ, zero, suc, ◌+◌, ◌<◌, Bool, not, nat_lt, ◌==◌, if◌then◌else◌, List, [], ◌∷◌, filter, flat_map}
 use Rattle.std.specs.List.{list_all}
 
 -- how often the row stands in the list

@@ -2,7 +2,7 @@
 use Rattle.std.specs.Prelude.{◌≡◌, ◌≢◌, ℕ, zero, suc, ◌+◌, ◌-◌, ◌/◌, ◌^◌, ◌<◌, ◌≤◌, Bool, true, false, ◌&&◌, ◌||◌, nat_lt, nat_le, ◌==◌, if◌then◌else◌, Option, Some, None, is_none, is_some, option_map, option_and_then, unwrap_or, not, List, [], ◌∷◌, ◌++◌, length, slice_index, slice_set, slice_get}
 use Rattle.std.specs.List.{list_all, list_any}
 use Rattle.era_core.specs.Lists.{is_in, all_different, In}
-use Rattle.era_core.specs.Words.{words_len, root_word, version, root_row, reservation_at, owner_at, cell_at, reservation, owner, cell, links, tree_at, live, start_words}
+use Rattle.era_core.specs.Words.{words_len, root_word, version, root_row, reservation_at, owner_at, cell_at, reservation, owner, cell, links, tree_at, start_words}
 use Rattle.era_core.specs.Views.{View, start_view, clears, noting, pinning, reading, taking, publishing, unpinning, looking, freeing}
 use Rattle.era_core.specs.Versions.{Copy, copy_at, look_up}
 use Rattle.era_core.specs.Sound.{Sound}

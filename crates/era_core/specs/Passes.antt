@@ -1,5 +1,5 @@
 -- What the running views are.
-use Rattle.std.specs.Prelude.{ℕ, Option, Some, map}
+use Rattle.std.specs.Prelude.{Some, map}
 use Rattle.era_core.specs.Views.{Batch, View}
 use Rattle.era_core.specs.declared.pass.Retired.{Retired}
 use Rattle.era_core.specs.declared.pass.PassView.{PassView}

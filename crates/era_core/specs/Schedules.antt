@@ -1,8 +1,7 @@
 -- Worked schedules of 4 rows and 2 passes, and what they leave.
-use Rattle.std.specs.Prelude.{ℕ, Option, None, List, [], ◌∷◌, ◌++◌, map, slice_index, slice_get, option_and_then, take, drop, slice_range}
+use Rattle.std.specs.Prelude.{ℕ, List, [], ◌∷◌, ◌++◌, map}
 use Rattle.era_core.specs.Words.{version, root_row, owner, reservation}
-use Rattle.era_core.specs.Views.{View}
-use Rattle.era_core.specs.Machine.{Machine, start, play, first_refused}
+use Rattle.era_core.specs.Machine.{Machine, start}
 use Rattle.era_core.specs.declared.event.Event.{Event}
 use Rattle.era_core.specs.declared.event.Event.TheVariants.{Note, Announce, Pin, Read, Take, Write, Publish, Unpin, Look, Free}
 

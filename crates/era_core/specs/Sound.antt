@@ -1,10 +1,10 @@
 -- What holds between the words, the views and the versions at every moment, so that no row is freed too soon.
 -- The views may stand in any order, and a copy may have as many words of its rows as one likes.
-use Rattle.std.specs.Prelude.{◌≡◌, ◌≢◌, ℕ, ◌+◌, ◌*◌, ◌<◌, ◌≤◌, ◌⊎◌, false, nat_lt, nat_le, ◌==◌, ◌&&◌, if◌then◌else◌, Option, Some, None, List, length}
+use Rattle.std.specs.Prelude.{◌≡◌, ◌≢◌, ℕ, ◌+◌, ◌<◌, ◌≤◌, ◌⊎◌, false, nat_lt, ◌&&◌, if◌then◌else◌, Some, None, List, length}
 use Rattle.era_core.specs.Lists.{times, In, total}
-use Rattle.era_core.specs.Words.{version, root_row, words_len, reservation, owner, cell, tree_at, live}
-use Rattle.era_core.specs.Views.{Batch, View, rows_in, versions_of, late, held, clears}
-use Rattle.era_core.specs.Versions.{Cell, Copy, IsClosed, Stands}
+use Rattle.era_core.specs.Words.{version, root_row, words_len, reservation, owner, live}
+use Rattle.era_core.specs.Views.{Batch, View, versions_of, late, held, clears}
+use Rattle.era_core.specs.Versions.{Copy, IsClosed, Stands}
 use mathlib.Core.Option.{some}
 use lib.ListN.{get_elem?}
 

@@ -1,6 +1,6 @@
 -- Versions: copies of the trees that were published. The running words keep none of them.
-use Rattle.std.specs.Prelude.{◌≡◌, ℕ, zero, suc, ◌+◌, ◌/◌, ◌<◌, min, Bool, true, false, ◌&&◌, ◌==◌, if◌then◌else◌, Option, Some, None, is_some, unwrap_or, List, [], ◌∷◌, ◌++◌, flat_map}
-use Rattle.era_core.specs.Lists.{In, tree}
+use Rattle.std.specs.Prelude.{◌≡◌, ℕ, zero, suc, ◌+◌, ◌/◌, ◌<◌, ◌≤◌, min, true, ◌&&◌, ◌==◌, if◌then◌else◌, Option, Some, None, is_some, unwrap_or, List, [], ◌∷◌, flat_map}
+use Rattle.era_core.specs.Lists.{times, In, tree}
 use Rattle.era_core.specs.Words.{links_by, cell, tree_at}
 use mathlib.Core.Option.{some}
 use lib.ListN.{get_elem?}
@@ -33,8 +33,10 @@ known_links cells r = links_by (known cells r)
 abbrev pub Covers : List Cell → ℕ → Type 0
 Covers cells r = (p : ℕ) → p < 1 + min 39 (known cells r 0 / 4) → is_some (look_up cells r p) ≡ true
 
--- the copy has words of its rows alone, and at least those that the tree at its root is made of; its rows are that tree's
+-- the copy has words of its rows alone, and at least those that the tree at its root is made of; its rows are that tree's,
+-- and no row stands there twice
 pub record IsClosed (rows : ℕ) (c : Copy) : Type 0 where
+  pub once : (r : ℕ) → times r c.rows ≤ 1
   pub within : (i : ℕ) (x : Cell) → get_elem? c.cells i ≡ some x → In x.row c.rows
   pub placed : (i : ℕ) (x : Cell) → get_elem? c.cells i ≡ some x → x.place < 40
   pub covers : (r : ℕ) → In r c.rows → Covers c.cells r

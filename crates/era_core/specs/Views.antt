@@ -1,5 +1,5 @@
 -- What a pass knows: its view, and what each event does to the view of the pass that steps.
-use Rattle.std.specs.Prelude.{ℕ, zero, suc, ◌+◌, min, Bool, true, false, nat_lt, nat_le, ◌==◌, if◌then◌else◌, Option, Some, None, List, [], ◌∷◌, ◌++◌, map, flat_map}
+use Rattle.std.specs.Prelude.{ℕ, zero, suc, ◌+◌, min, Bool, true, nat_lt, nat_le, ◌==◌, if◌then◌else◌, Option, Some, None, List, [], ◌∷◌, ◌++◌, map, flat_map}
 use Rattle.era_core.specs.Lists.{is_in, without}
 
 -- retired rows: those that a version had and the next one had no more

@@ -1,6 +1,6 @@
 -- The word arena: the root, one reservation for each pass, one owner for each row, and the rows of 40 words.
 -- A reservation is a hazard era: the version from which on its pass may read.
-use Rattle.std.specs.Prelude.{ℕ, zero, suc, ◌+◌, ◌*◌, ◌/◌, ◌%◌, ◌^◌, min, List, [], ◌∷◌, ◌++◌, slice_index, slice_set, replicate}
+use Rattle.std.specs.Prelude.{ℕ, zero, suc, ◌+◌, ◌*◌, ◌/◌, ◌%◌, ◌^◌, min, List, [], ◌∷◌, slice_index, slice_set, replicate}
 use Rattle.era_core.specs.Lists.{tree}
 
 -- the root word: a version, and the row at which its tree stands

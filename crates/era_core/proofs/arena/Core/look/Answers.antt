@@ -1,7 +1,6 @@
-use Rattle.std.proofs.Common.{◌≡◌, ◌+◌, ◌<◌, length, cond, eqb, ltb, sym, ap, ◌∙◌, arith, lt-ltb}
-use Rattle.std.specs.Prelude.{◌&&◌, ◌||◌, slice_index}
+use Rattle.std.proofs.Common.{◌+◌, ◌<◌, cond, eqb, sym, ap, ◌∙◌, arith, lt-ltb}
+use Rattle.std.specs.Prelude.{◌&&◌, ◌||◌}
 use Rattle.std.proofs.lemmas.List.{get_or_read}
-use Rattle.era_core.specs.Words.{reservation}
 use Rattle.era_core.specs.Views.{looking}
 use Rattle.era_core.specs.Passes.{view_of}
 use Rattle.era_core.specs.Machine.{allows, after}

@@ -1,7 +1,6 @@
-use Rattle.std.proofs.Common.{◌≡◌, ◌+◌, ◌/◌, ◌^◌, ◌<◌, length, cond, eqb, sym, ap, ◌∙◌, arith}
-use Rattle.std.specs.Prelude.{◌&&◌, is_none, slice_index}
+use Rattle.std.proofs.Common.{◌+◌, ◌/◌, ◌^◌, ◌<◌, cond, eqb, ap, ◌∙◌, arith}
+use Rattle.std.specs.Prelude.{◌&&◌, is_none}
 use Rattle.std.proofs.lemmas.List.{get_or_read}
-use Rattle.era_core.specs.Words.{reservation}
 use Rattle.era_core.specs.Views.{noting}
 use Rattle.era_core.specs.Passes.{view_of}
 use Rattle.era_core.specs.Machine.{allows, after}

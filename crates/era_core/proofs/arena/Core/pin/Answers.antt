@@ -1,7 +1,6 @@
-use Rattle.std.proofs.Common.{◌≡◌, ◌+◌, ◌/◌, ◌%◌, ◌^◌, ◌<◌, length, cond, ltb, sym, ap, ◌∙◌, arith}
-use Rattle.std.specs.Prelude.{◌&&◌, is_none, slice_index}
+use Rattle.std.proofs.Common.{◌+◌, ◌/◌, ◌%◌, ◌^◌, ◌<◌, cond, ltb, ap, ◌∙◌, arith}
+use Rattle.std.specs.Prelude.{◌&&◌, is_none}
 use Rattle.std.proofs.lemmas.List.{get_or_read}
-use Rattle.era_core.specs.Words.{reservation}
 use Rattle.era_core.specs.Views.{pinning}
 use Rattle.era_core.specs.Passes.{view_of}
 use Rattle.era_core.specs.Machine.{allows, after}
