@@ -166,6 +166,15 @@ module _ {A : Type 0} (f : A → View) (passes rows : ℕ) (ws : List ℕ) (xs :
         running = subst IsRunning (sym next) (running_after before e running);
       }
 
+  -- an event that the view of its pass refuses
+  pub refused : (e : Event) (p : A) → IsRunning before → pass_of e < passes → p ≡ get_or xs (pass_of e) p → may passes rows ws (f p) e ≡ false
+      → (allows before e ≡ false) × (after before e ≡ before)
+  refused e p running inside is no_leave =
+      let within : pass_of e < length xs = omega (arith, length-map xs f, running.counted) in
+      let at : slice_get (map f xs) (pass_of e) ≡ Some (f p) = slice_get-map f xs (pass_of e) p within ∙ ap (λ (x : A). Some (f x)) (sym is) in
+      let no : allows before e ≡ false = allows_by before e (f p) at ∙ no_leave in
+      (no, ap (λ b. cond b (after_at before e (slice_get (map f xs) (pass_of e))) before) no)
+
 -- a choice between equals
 pub either_way : {A : Type 0} (b : Bool) (x : A) → x ≡ cond b x x
 either_way true x = refl

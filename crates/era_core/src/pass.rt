@@ -1,7 +1,7 @@
 //! The view of a pass, as it runs.
 
 ghost use Rattle.std.specs.Prelude.{◌≡◌, ◌/◌, ◌%◌, ◌^◌, ◌&&◌, ◌||◌, ◌==◌, ◌<◌, nat_lt, is_none, is_some, if◌then◌else◌};
-ghost use Rattle.era_core.specs.Views.{start_view, noting, pinning, unpinning, looking, reading, lesser, reserved as named_by};
+ghost use Rattle.era_core.specs.Views.{start_view, noting, pinning, looking, reading, lesser, reserved as named_by};
 ghost use Rattle.era_core.specs.Passes.{view_of};
 
 use std::alloc::Global;
@@ -67,16 +67,6 @@ impl PassView {
         self.noted = None;
         self.pinned = Some((root / 16_777_216, (root % 16_777_216) as u32));
         true
-    }
-
-    /// Lets go of the pinned version: false, and nothing changed, where none is pinned.
-    pub(crate) fn unpin(&mut self) -> bool
-        ensures done { result ≡ is_some (view_of self.old).pinned }
-        ensures next { view_of self.new ≡ (if result then unpinning (view_of self.old) else view_of self.old) }
-    {
-        let pinned = self.pinned.is_some();
-        self.pinned = None;
-        pinned
     }
 
     /// Goes on with a scan, or begins one at pass 0, by the reservation found of the pass `other`.

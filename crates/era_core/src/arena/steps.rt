@@ -3,7 +3,7 @@
 
 ghost use Rattle.std.specs.Prelude.{◌≡◌};
 ghost use Rattle.era_core.specs.Machine.{allows, after};
-ghost use Rattle.era_core.specs.declared.event.Event.TheVariants.{Note, Pin, Look};
+ghost use Rattle.era_core.specs.declared.event.Event.TheVariants.{Note, Pin, Look, Unpin};
 
 use crate::arena::Core;
 
@@ -47,5 +47,22 @@ impl Core {
         let reserved = self.words[1 + other as usize];
         let view = &mut self.views[pass as usize];
         view.look(other, reserved)
+    }
+
+    // Takes the reservation back and lets go of the pinned version.
+    pub(crate) fn unpin(&mut self, pass: u32) -> bool
+        ensures done { result ≡ allows self.old (Unpin pass) }
+        ensures next { self.new ≡ after self.old (Unpin pass) }
+    {
+        if pass >= self.passes {
+            return false;
+        }
+        if self.views[pass as usize].pinned.is_none() {
+            return false;
+        }
+        self.words[1 + pass as usize] = 0;
+        let view = &mut self.views[pass as usize];
+        view.pinned = None;
+        true
     }
 }
