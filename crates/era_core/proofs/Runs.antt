@@ -1,6 +1,6 @@
 -- Every event keeps a machine sound, so every schedule leaves a sound one.
-use Rattle.std.proofs.Common.{◌≡◌, ℕ, zero, suc, ◌+◌, ◌-◌, ◌^◌, ◌<◌, ◌≤◌, ⊎_elim, inl, inr, Bool, true, false, cond, eqb, ltb, Option, Some, None, List, [], ◌∷◌, ◌++◌, set, slice_index, refl, sym, ap, subst, ◌∙◌, arith, length-set}
-use Rattle.std.specs.Prelude.{◌&&◌, ◌||◌, is_none, is_some, slice_get}
+use Rattle.std.proofs.Common.{length, ◌≡◌, ℕ, zero, suc, ◌+◌, ◌-◌, ◌^◌, ◌<◌, ◌≤◌, ⊎_elim, inl, inr, Bool, true, false, cond, eqb, ltb, Option, Some, None, List, [], ◌∷◌, ◌++◌, set, slice_index, refl, sym, ap, subst, ◌∙◌, arith, length-set}
+use Rattle.std.specs.Prelude.{◌&&◌, ◌||◌, is_none, is_some, option_map, slice_get}
 use Rattle.std.specs.List.{list_all, list_any}
 use Rattle.std.proofs.lemmas.Bool.{and_parts, or_cases, eqb-true, ltb-true, false≢true}
 use Rattle.std.proofs.lemmas.Option.{same_Some, none-some}
@@ -9,7 +9,7 @@ use Rattle.era_core.specs.Words.{root_word, owner_at, reservation, owner, cell, 
 use Rattle.era_core.specs.Views.{View, clears, taking, without_row}
 use Rattle.era_core.specs.Versions.{Copy, copy_at, look_up}
 use Rattle.era_core.specs.Sound.{Sound}
-use Rattle.era_core.specs.Machine.{Machine, IsSound, start, start_copies, pass_of, may, may_publish, is_new_tree, are_linked, finds_pinned, words_announced, words_published, view_published, words_after, view_after, versions_after, allows_at, allows, after_at, after, copies_at, copies_after, play, copies}
+use Rattle.era_core.specs.Machine.{Machine, IsSound, start, start_copies, pass_of, may, may_publish, is_new_tree, are_linked, finds_pinned, words_announced, words_published, view_published, words_after, view_after, versions_after, allows_at, allows, after_at, after, copies_at, copies_after, play, copies, first_refused}
 use Rattle.era_core.specs.declared.event.Event.{Event}
 use Rattle.era_core.specs.declared.event.Event.TheVariants.{Note, Announce, Pin, Read, Take, Write, Publish, Unpin, Look, Free}
 use Rattle.era_core.proofs.ListFacts.{in_cases, at_set, at_push, set_again}
@@ -204,3 +204,41 @@ play_sound (e ∷ es) m cs is_sound = play_sound es (after m e) (copies_after m 
 -- every schedule from the start
 pub every_schedule : (rows passes : ℕ) (es : List Event) → 0 < rows → rows ≤ 262144 → IsSound (play es (start rows passes)) (copies es (start rows passes) (start_copies rows passes))
 every_schedule rows passes es some_row few = play_sound es (start rows passes) (start_copies rows passes) (starts passes rows some_row few)
+
+-- a list of events and one more
+pub play-push : (es : List Event) (e : Event) (m : Machine) → play (es ++ e ∷ []) m ≡ after (play es m) e
+play-push [] e m = refl
+play-push (d ∷ es) e m = play-push es e (after m d)
+
+-- the first refusal of a list whose first event is allowed, and of one whose first event is not
+refusal_later : (d : Event) (es : List Event) (m : Machine) → allows m d ≡ true → first_refused (d ∷ es) m ≡ option_map suc (first_refused es (after m d))
+refusal_later d es m ok = ap (λ b. cond b (option_map suc (first_refused es (after m d))) (Some 0)) ok
+
+refusal_now : (d : Event) (es : List Event) (m : Machine) → allows m d ≡ false → first_refused (d ∷ es) m ≡ Some 0
+refusal_now d es m denied = ap (λ b. cond b (option_map suc (first_refused es (after m d))) (Some 0)) denied
+
+none_under : (o : Option ℕ) → option_map suc o ≡ None → o ≡ None
+none_under None e = refl
+none_under (Some x) e = absurd (none-some (suc x) (sym e))
+
+-- where no event of a list is refused, its first is allowed, and none of the others is refused
+first_allowed : (d : Event) (es : List Event) (m : Machine) → first_refused (d ∷ es) m ≡ None → (allows m d ≡ true) × (first_refused es (after m d) ≡ None)
+first_allowed d es m none = by_test (allows m d) refl
+  where
+    by_test : (b : Bool) → allows m d ≡ b → (allows m d ≡ true) × (first_refused es (after m d) ≡ None)
+    by_test true ok = (ok, none_under (first_refused es (after m d)) (sym (refusal_later d es m ok) ∙ none))
+    by_test false denied = absurd (none-some 0 (sym none ∙ refusal_now d es m denied))
+
+-- events that are allowed, and one more that is
+pub first_refused-push : (es : List Event) (e : Event) (m : Machine) → first_refused es m ≡ None → allows (play es m) e ≡ true → first_refused (es ++ e ∷ []) m ≡ None
+first_refused-push [] e m none ok = refusal_later e [] m ok
+first_refused-push (d ∷ es) e m none ok =
+    let first = first_allowed d es m none in
+    refusal_later d (es ++ e ∷ []) m first.0 ∙ ap (option_map suc) (first_refused-push es e (after m d) first.1 ok)
+
+-- events that are allowed, and one that is not, whatever comes then
+pub first_refused-here : (es more : List Event) (e : Event) (m : Machine) → first_refused es m ≡ None → allows (play es m) e ≡ false → first_refused (es ++ e ∷ more) m ≡ Some (length es)
+first_refused-here [] more e m none denied = refusal_now e more m denied
+first_refused-here (d ∷ es) more e m none denied =
+    let first = first_allowed d es m none in
+    refusal_later d (es ++ e ∷ more) m first.0 ∙ ap (option_map suc) (first_refused-here es more e (after m d) first.1 denied)
