@@ -53,19 +53,19 @@ module _ (passes rows : ℕ) where
 
   pub record Sound (ws : List ℕ) (vs : List View) (cs : List Copy) : Type 0 where
     pub long : length ws ≡ words_len passes rows
-    -- (a) the root's version is the last one, and its copy is the tree at the root's row as it stands
+    -- the root's version is the last one, and its copy is the tree at the root's row as it stands
     pub counted : length cs ≡ version ws + 1
     pub rooted : (c : Copy) → get_elem? cs (version ws) ≡ some c → c.root ≡ root_row ws
     pub stands : (c : Copy) → get_elem? cs (version ws) ≡ some c → Stands passes rows ws c.cells
     pub current : (c : Copy) → get_elem? cs (version ws) ≡ some c → c.rows ≡ live passes rows ws
-    -- (b) a row without an owner stands nowhere, and each other row in one place alone: live, fresh or retired
+    -- a row without an owner stands nowhere, and each other row in one place alone: live, fresh or retired
     pub places : (r : ℕ) → times r (live passes rows ws) + total (λ (v : View). times r (held v)) vs ≡ owned ws r
-    -- (c), (d) each view agrees with the words and the versions
+    -- each view agrees with the words and the versions
     pub each : (i : ℕ) (v : View) → get_elem? vs i ≡ some v → Fits ws vs cs v
-    -- (d) a pass has one view, and one without a view has reserved nothing
+    -- a pass has one view, and one without a view has reserved nothing
     pub apart : (i j : ℕ) (u v : View) (k : ℕ) → get_elem? vs i ≡ some u → get_elem? vs j ≡ some v → u.number ≡ Some k → v.number ≡ Some k → i ≡ j
     pub silent : (k : ℕ) → k < passes → ((i : ℕ) (v : View) → get_elem? vs i ≡ some v → v.number ≢ Some k) → reservation passes rows ws k ≡ 0
-    -- (e) each scan has seen the reservations of the pinned passes that it looked at
+    -- each scan has seen the reservations of the pinned passes that it looked at
     pub scans : (i j : ℕ) (u v : View) → get_elem? vs i ≡ some u → get_elem? vs j ≡ some v → Scans u v
     -- each copy has the words that its tree is made of
     pub closed : (n : ℕ) (c : Copy) → get_elem? cs n ≡ some c → IsClosed rows c
