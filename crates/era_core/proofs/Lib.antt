@@ -14,3 +14,4 @@ pub mod Runs
 pub mod Readers
 pub mod Held
 pub mod Running
+pub mod Walks
