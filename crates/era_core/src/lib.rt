@@ -11,6 +11,7 @@ mod arena;
 mod event;
 mod laws;
 mod pass;
+mod walk;
 
 pub use arena::Core;
 pub use event::Event;
