@@ -1,20 +1,23 @@
 -- What the running machine keeps, it keeps at every event.
 use Rattle.std.proofs.Common.{◌≡◌, ℕ, ◌+◌, ◌<◌, ◌≤◌, ⊎_elim, Bool, true, false, cond, eqb, ltb, Option, Some, None, List, [], ◌∷◌, map, get_or, zero, suc, length, set, refl, sym, ap, subst, ◌∙◌, arith, length-set}
-use Rattle.std.specs.Prelude.{◌&&◌, ◌||◌, slice_get}
+use Rattle.std.specs.Prelude.{◌&&◌, ◌||◌, slice_get, option_and_then}
 use Rattle.std.specs.List.{list_any}
-use Rattle.std.proofs.Math.Logic.{∥∥₁_map}
+use Rattle.std.proofs.Math.Logic.{∥∥₁_map, ∥∥₁_elim}
+use Rattle.std.proofs.Math.Bridge.{le_prop}
 use Rattle.std.proofs.lemmas.Bool.{cases_eq, and_parts, ltb-true, false≢true}
 use Rattle.std.proofs.lemmas.Option.{slice_get_within, slice_get_past}
 use Rattle.std.proofs.lemmas.List.{length-map, map-set}
-use Rattle.era_core.specs.Lists.{is_in}
+use Rattle.era_core.specs.Lists.{In, is_in}
 use Rattle.era_core.specs.Words.{root_word, words_len, owner_at, reservation_at, cell_at, owner}
-use Rattle.era_core.specs.Views.{View, clears}
+use Rattle.era_core.specs.Views.{View, rows_in, clears}
 use Rattle.era_core.specs.Versions.{Copy}
-use Rattle.era_core.specs.Machine.{Machine, IsSound, IsRunning, pass_of, may, finds_pinned, words_announced, words_published, words_after, view_after, allows, allows_at, after, after_at, copies_after}
+use Rattle.era_core.specs.Machine.{Machine, IsSound, IsRunning, pass_of, pinned_rows, may, finds_pinned, words_announced, words_published, words_after, view_after, allows, allows_at, after, after_at, copies_after}
 use Rattle.era_core.specs.declared.event.Event.{Event}
 use Rattle.era_core.specs.declared.event.Event.TheVariants.{Note, Announce, Pin, Read, Take, Write, Publish, Unpin, Look, Free}
 use Rattle.era_core.proofs.WordFacts.{owner_keeps_owner, owner_stored, reservation_keeps_owner, cell_keeps_owner, root_keeps_owner}
-use Rattle.era_core.proofs.ListFacts.{set_again}
+use Rattle.era_core.proofs.ListFacts.{set_again, times-append}
+use Rattle.era_core.proofs.Frees.{held_within}
+use Rattle.era_core.proofs.Readers.{pinned_within}
 use Rattle.era_core.proofs.Runs.{after_sound, at_slice_get}
 
 module _ (passes rows : ℕ) (ws : List ℕ) (long : length ws ≡ words_len passes rows) (small : (r : ℕ) → r < rows → owner passes rows ws r ≤ passes) where
@@ -219,3 +222,31 @@ module _ {A : Type 0} (f : A → View) (passes rows : ℕ) (ws : List ℕ) (xs :
   view_again i p q is same =
       ap (λ vs. record { rows = rows; passes = passes; words = ws; views = vs })
       (map-set f xs i q ∙ ap (set (map f xs) i) same ∙ sym (map-set f xs i p) ∙ ap (map f) (set_same xs i p is))
+
+module _ {A : Type 0} (f : A → View) (passes rows : ℕ) (ws : List ℕ) (xs : List A) (running : IsRunning (before f passes rows ws xs)) (k : ℕ) (inside : k < passes) (p : A) (is : p ≡ get_or xs k p) where
+  view_there : slice_get (map f xs) k ≡ Some (f p)
+  view_there =
+      let within : k < length xs = omega (arith, length-map xs f, running.counted) in
+      slice_get-map f xs k p within ∙ ap (λ (x : A). Some (f x)) (sym is)
+
+  -- the rows of the version that a pass has pinned are rows
+  pub pinned_inside : (x : ℕ) → In x (pinned_rows passes rows ws (f p).pinned) → x < rows
+  pinned_inside x here = by_pin (f p).pinned refl here
+    where
+      by_pin : (o : Option (ℕ × ℕ)) → (f p).pinned ≡ o → In x (pinned_rows passes rows ws o) → x < rows
+      by_pin None e none = absurd (omega arith)
+      by_pin (Some pin) e there =
+          ∥∥₁_elim running.sound le_prop (λ known.
+          pinned_within (before f passes rows ws xs) known.0 known.1 k pin.0 pin.1 (ap (λ o. option_and_then (λ (v : View). v.pinned) o) view_there ∙ e) x there)
+
+  -- so are its fresh rows
+  pub fresh_inside : (x : ℕ) → In x (f p).fresh → x < rows
+  fresh_inside x here =
+      ∥∥₁_elim running.sound le_prop (λ known.
+      let at = at_slice_get (map f xs) k (f p) view_there in
+      held_within passes rows ws (map f xs) known.0 known.1.sound k k (f p) at (known.1.ordered k (f p) at) x (omega (arith, times-append x (f p).fresh (rows_in (f p).retired))))
+
+-- a test that fails
+pub none_of : (a b : Bool) → b ≡ false → (a && b) ≡ false
+none_of true b e = e
+none_of false b e = refl

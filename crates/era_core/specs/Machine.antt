@@ -1,5 +1,5 @@
 -- The machine: its words and one view for each pass, the ten events, and what a list of events leaves.
-use Rattle.std.specs.Prelude.{◌≡◌, ◌≢◌, ℕ, zero, suc, ◌+◌, ◌-◌, ◌/◌, ◌^◌, ◌<◌, ◌≤◌, Bool, true, false, ◌&&◌, ◌||◌, nat_lt, nat_le, ◌==◌, if◌then◌else◌, Option, Some, None, is_none, is_some, option_map, option_and_then, unwrap_or, not, List, [], ◌∷◌, ◌++◌, length, slice_index, slice_set, slice_get}
+use Rattle.std.specs.Prelude.{◌≡◌, ◌≢◌, ℕ, zero, suc, ◌+◌, ◌-◌, ◌/◌, ◌^◌, ◌<◌, ◌≤◌, Bool, true, false, ◌&&◌, ◌||◌, nat_lt, nat_le, ◌==◌, if◌then◌else◌, Option, Some, None, is_none, is_some, option_map, option_and_then, unwrap_or, not, List, [], ◌∷◌, ◌++◌, length, slice_index, slice_index_or, slice_set, slice_get}
 use Rattle.std.specs.List.{list_all, list_any}
 use Rattle.era_core.specs.Lists.{is_in, all_different, In}
 use Rattle.era_core.specs.Words.{words_len, root_word, version, root_row, reservation_at, owner_at, cell_at, reservation, owner, cell, links, tree_at, start_words}
@@ -222,3 +222,9 @@ pub record IsRunning (m : Machine) : Type 0 where
   pub counted : length m.views ≡ m.passes
   pub owners : (r : ℕ) → r < m.rows → owner_of m r ≤ m.passes
   pub sound : ∥ ((cs : List Copy) × IsSound m cs) ∥₁
+
+-- What it keeps between its steps: a mark for each row, and all of them clear
+pub record IsAtRest (m : Machine) (marks : List Bool) : Type 0 where
+  pub running : IsRunning m
+  pub marked : length marks ≡ m.rows
+  pub clear : (r : ℕ) → slice_index_or marks r false ≡ false

@@ -1,6 +1,6 @@
 //! The machine as it runs.
 
-ghost use Rattle.std.specs.Prelude.{◌≡◌, ℕ, ◌<◌, ◌≤◌, map, IfOk};
+ghost use Rattle.std.specs.Prelude.{◌≡◌, ℕ, ◌<◌, ◌≤◌, map, replicate, false, IfOk};
 ghost use Rattle.era_core.specs.Words.{version, root_row, reservation, start_words};
 ghost use Rattle.era_core.specs.Machine.{start, start_views, owner_of, cell_of, last_of};
 ghost use Rattle.era_core.specs.Passes.{view_of};
@@ -34,6 +34,13 @@ fn first_views(alloc: Global, passes: u32) -> Result<Vec<PassView>, AllocError>
     Ok(views)
 }
 
+// The marks at the start.
+fn first_marks(alloc: Global, rows: u32) -> Result<Vec<bool>, AllocError>
+    ensures { IfOk result (λ marks. marks.items ≡ replicate rows false) }
+{
+    vec![in alloc; false; rows as usize]
+}
+
 /// The machine: its words, and a view for each pass.
 #[derive(Drop)]
 pub struct Core {
@@ -41,18 +48,20 @@ pub struct Core {
     passes: u32,
     words: Vec<u64>,
     views: Vec<PassView>,
+    // A mark for each row, all of them clear between steps.
+    marks: Vec<bool>,
 }
 
 impl Model for Core {
     ghost use Rattle.std.specs.Prelude.{map};
-    ghost use Rattle.era_core.specs.Machine.{Machine, IsRunning};
+    ghost use Rattle.era_core.specs.Machine.{Machine, IsAtRest};
     ghost use Rattle.era_core.specs.Passes.{view_of};
 
     ghost Value = { Machine };
 
     ghost view = { λ c. record { rows = c.rows; passes = c.passes; words = c.words.items; views = map view_of c.views.items } };
 
-    ghost invariant = { λ c. IsRunning (record { rows = c.rows; passes = c.passes; words = c.words.items; views = map view_of c.views.items }) };
+    ghost invariant = { λ c. IsAtRest (record { rows = c.rows; passes = c.passes; words = c.words.items; views = map view_of c.views.items }) c.marks.items };
 }
 
 impl Core {
@@ -67,11 +76,13 @@ impl Core {
     {
         let words = first_words(alloc, rows, passes)?;
         let views = first_views(alloc, passes)?;
+        let marks = first_marks(alloc, rows)?;
         Ok(Core {
             rows,
             passes,
             words,
             views,
+            marks,
         })
     }
 

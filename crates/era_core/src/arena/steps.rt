@@ -1,12 +1,40 @@
 //! The events of the running machine, each as one function: false exactly where the event is not allowed, and then
 //! nothing changed.
 
-ghost use Rattle.std.specs.Prelude.{◌≡◌, IfOk, OnOk, OnErr};
-ghost use Rattle.era_core.specs.Machine.{allows, after};
-ghost use Rattle.era_core.specs.declared.event.Event.TheVariants.{Note, Announce, Pin, Take, Write, Unpin, Look, Free};
+ghost use Rattle.std.specs.Prelude.{◌≡◌, ℕ, ◌<◌, ◌≤◌, ◌||◌, length, IfOk, OnOk, OnErr};
+ghost use Rattle.era_core.specs.Lists.{In, is_in};
+ghost use Rattle.era_core.specs.Words.{words_len};
+ghost use Rattle.era_core.specs.Passes.{view_of};
+ghost use Rattle.era_core.specs.Machine.{pinned_rows, allows, after};
+ghost use Rattle.era_core.specs.declared.event.Event.TheVariants.{Note, Announce, Pin, Read, Take, Write, Unpin, Look, Free};
 
 use crate::arena::Core;
-use std::alloc::AllocError;
+use crate::pass::PassView;
+use crate::walk::stands_in_tree;
+use std::alloc::{AllocError, Global};
+
+// Whether a pass may read a row: a fresh one, or one of the version that it has pinned.
+fn may_read(
+    alloc: Global,
+    words: &[u64],
+    passes: u32,
+    rows: u32,
+    view: &PassView,
+    row: u32,
+) -> Result<bool, AllocError>
+    requires long { length words.now ≡ words_len passes rows }
+    requires few_rows { rows ≤ 262144 }
+    requires in_range { (x : ℕ) → In x (pinned_rows passes rows words.now (view_of view.now).pinned) → x < rows }
+    ensures { IfOk result (λ may. may ≡ (is_in row (view_of view.now).fresh || is_in row (pinned_rows passes rows words.now (view_of view.now).pinned))) }
+{
+    if view.has_fresh(row) {
+        return Ok(true);
+    }
+    match view.pinned {
+        None => Ok(false),
+        Some((_, root)) => stands_in_tree(alloc, words, passes, rows, root, row),
+    }
+}
 
 impl Core {
     // Notes the version at the root.
@@ -65,6 +93,27 @@ impl Core {
         let reserved = self.words[1 + other as usize];
         let view = &mut self.views[pass as usize];
         view.look(other, reserved)
+    }
+
+    // Loads a word of a row of the pinned version, or of a fresh row. After want of memory nothing changed.
+    pub(crate) fn read(&mut self, pass: u32, row: u32, place: u32) -> Result<bool, AllocError>
+        ensures done { IfOk result (λ done. done ≡ allows self.old (Read pass row place)) }
+        ensures next { OnOk result (self.new ≡ after self.old (Read pass row place)) }
+        ensures err { OnErr result (self.new ≡ self.old) }
+    {
+        if pass >= self.passes || row >= self.rows || place >= 40 {
+            return Ok(false);
+        }
+        let alloc = *self.words.allocator();
+        let view = &self.views[pass as usize];
+        if !may_read(alloc, &self.words, self.passes, self.rows, view, row)? {
+            return Ok(false);
+        }
+        let first = 1 + self.passes as usize + self.rows as usize + 40 * row as usize;
+        let word = self.words[first + place as usize];
+        let view = &mut self.views[pass as usize];
+        view.read(word);
+        Ok(true)
     }
 
     // Takes a row, if it is free. After want of memory nothing changed.

@@ -18,7 +18,7 @@ use Rattle.era_core.proofs.arena.Core.announce.Goals.{After-self-1}
 pub prove-unreachable-requires : goal.prove-unreachable-requires
 prove-unreachable-requires c =
     let it = c.self.inside in
-    let kept = c.self.invariant in
+    let kept = c.self.invariant.running in
     let within : c.args.pass < length it.views.items = omega (arith, length-map it.views.items view_of, kept.counted, c.if-pass-self.false) in
     let p : PassView = c.index-2.result.now in
     let at : slice_get (map view_of it.views.items) c.args.pass ≡ Some (view_of p) =
@@ -31,7 +31,7 @@ prove-unreachable-requires c =
 step : (c : After-self-1) → Stored view_of c.self.inside.passes c.self.inside.rows c.self.inside.words.items c.self.inside.views.items (Announce c.args.pass) true (set c.self.inside.words.items (1 + c.args.pass) (c.in-Some.version + 1))
 step c =
     let it = c.self.inside in
-    let kept = c.self.invariant in
+    let kept = c.self.invariant.running in
     let pass : c.args.pass < it.passes = c.if-pass-self.false in
     let own : get_or it.words.items (1 + c.args.pass) 0 ≡ 0 = sym (get_or_read it.words.items (1 + c.args.pass) c.index.result.now (omega (arith, kept.long, pass)) c.index.ensures 0) ∙ c.if-index-ne0.false in
     let p : PassView = c.index-2.result.now in
@@ -42,7 +42,7 @@ step c =
     refl
 
 pub invariant_of-self : goal.invariant_of-self
-invariant_of-self c = (step c).running
+invariant_of-self c = record { running = (step c).running; marked = c.self.invariant.marked; clear = c.self.invariant.clear }
 
 pub returns-clause-done : goal.returns-clause-done
 returns-clause-done c = (step c).done ∙ ap (λ m. allows m (Announce c.args.pass)) c.self.view_is

@@ -16,7 +16,7 @@ use Rattle.era_core.proofs.arena.Core.free.Goals.{After-self-2-1}
 step : (c : After-self-2-1) → Stepped view_of c.self.inside.passes c.self.inside.rows c.self.inside.words.items c.self.inside.views.items (Free c.args.pass c.args.row) true (set c.self.inside.words.items (1 + c.self.inside.passes + c.args.row) 0) c.free.new.self
 step c =
     let it = c.self.inside in
-    let kept = c.self.invariant in
+    let kept = c.self.invariant.running in
     let pass : c.args.pass < it.passes = c.if-pass-self.false in
     let row : c.args.row < it.rows = c.if-row-self.false in
     let p : PassView = c.index_mut-view.result.now in
@@ -30,7 +30,7 @@ step c =
     c.free.ensures
 
 pub invariant_of-self : goal.invariant_of-self
-invariant_of-self c = (step c).running
+invariant_of-self c = record { running = (step c).running; marked = c.self.invariant.marked; clear = c.self.invariant.clear }
 
 pub returns-clause-done : goal.returns-clause-done
 returns-clause-done c = (step c).done ∙ ap (λ m. allows m (Free c.args.pass c.args.row)) c.self.view_is

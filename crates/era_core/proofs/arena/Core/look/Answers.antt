@@ -12,7 +12,7 @@ use Rattle.era_core.proofs.arena.Core.look.Goals.{After-self-1}
 step : (c : After-self-1) → Stepped view_of c.self.inside.passes c.self.inside.rows c.self.inside.words.items c.self.inside.views.items (Look c.args.pass c.args.other) c.look.result c.self.inside.words.items c.look.new.self
 step c =
     let it = c.self.inside in
-    let kept = c.self.invariant in
+    let kept = c.self.invariant.running in
     let pass : c.args.pass < it.passes = c.if-pass-self.false in
     let other : c.args.other < it.passes = c.if-other-self.false in
     let found = get_or_read it.words.items (1 + c.args.other) c.index-reserved.result.now (omega (arith, kept.long, other)) c.index-reserved.ensures 0 in
@@ -23,7 +23,7 @@ step c =
     (c.look.ensures.next ∙ ap (λ w. cond c.look.result (looking c.args.other w v) v) found)
 
 pub invariant_of-self : goal.invariant_of-self
-invariant_of-self c = (step c).running
+invariant_of-self c = record { running = (step c).running; marked = c.self.invariant.marked; clear = c.self.invariant.clear }
 
 pub returns-clause-done : goal.returns-clause-done
 returns-clause-done c = (step c).done ∙ ap (λ m. allows m (Look c.args.pass c.args.other)) c.self.view_is

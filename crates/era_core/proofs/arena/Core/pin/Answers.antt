@@ -12,7 +12,7 @@ use Rattle.era_core.proofs.arena.Core.pin.Goals.{After-self-1}
 step : (c : After-self-1) → Stepped view_of c.self.inside.passes c.self.inside.rows c.self.inside.words.items c.self.inside.views.items (Pin c.args.pass) c.pin.result c.self.inside.words.items c.pin.new.self
 step c =
     let it = c.self.inside in
-    let kept = c.self.invariant in
+    let kept = c.self.invariant.running in
     let pass : c.args.pass < it.passes = c.if-pass-self.false in
     let root = get_or_read it.words.items 0 c.index-root.result.now (omega (arith, kept.long)) c.index-root.ensures 0 in
     let own = get_or_read it.words.items (1 + c.args.pass) c.index-reserved.result.now (omega (arith, kept.long, pass)) c.index-reserved.ensures 0 in
@@ -23,7 +23,7 @@ step c =
     (c.pin.ensures.next ∙ ap (λ w. cond c.pin.result (pinning (w / 2 ^ 24) (w % 2 ^ 24) v) v) root)
 
 pub invariant_of-self : goal.invariant_of-self
-invariant_of-self c = (step c).running
+invariant_of-self c = record { running = (step c).running; marked = c.self.invariant.marked; clear = c.self.invariant.clear }
 
 pub returns-clause-done : goal.returns-clause-done
 returns-clause-done c = (step c).done ∙ ap (λ m. allows m (Pin c.args.pass)) c.self.view_is

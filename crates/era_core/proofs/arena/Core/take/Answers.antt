@@ -15,7 +15,7 @@ use Rattle.era_core.proofs.arena.Core.take.Goals.{Then-index-ne0, After-from_res
 owned : (c : Then-index-ne0) → Stored view_of c.self.inside.passes c.self.inside.rows c.self.inside.words.items c.self.inside.views.items (Take c.args.pass c.args.row) true c.self.inside.words.items
 owned c =
     let it = c.self.inside in
-    let kept = c.self.invariant in
+    let kept = c.self.invariant.running in
     let pass : c.args.pass < it.passes = c.if-pass-self.false in
     let row : c.args.row < it.rows = c.if-row-self.false in
     let at : ℕ = 1 + it.passes + c.args.row in
@@ -39,7 +39,7 @@ failed c = view_again view_of c.self.inside.passes c.self.inside.rows c.self.ins
 step : (c : After-self-2-1) → Stepped view_of c.self.inside.passes c.self.inside.rows c.self.inside.words.items c.self.inside.views.items (Take c.args.pass c.args.row) true (set c.self.inside.words.items (1 + c.self.inside.passes + c.args.row) (c.args.pass + 1)) c.take.new.self
 step c =
     let it = c.self.inside in
-    let kept = c.self.invariant in
+    let kept = c.self.invariant.running in
     let pass : c.args.pass < it.passes = c.if-pass-self.false in
     let row : c.args.row < it.rows = c.if-row-self.false in
     let at : ℕ = 1 + it.passes + c.args.row in
@@ -55,7 +55,7 @@ pub returns-then-index-ne0-clause-next : goal.returns-then-index-ne0-clause-next
 returns-then-index-ne0-clause-next c = sym c.self.view_is ∙ (owned c).next ∙ ap (λ m. after m (Take c.args.pass c.args.row)) c.self.view_is
 
 pub invariant_of-self : goal.invariant_of-self
-invariant_of-self c = subst IsRunning (sym (failed c)) c.self.invariant
+invariant_of-self c = record { running = subst IsRunning (sym (failed c)) c.self.invariant.running; marked = c.self.invariant.marked; clear = c.self.invariant.clear }
 
 pub returns-in_err-take-clause-err : goal.returns-in_err-take-clause-err
 returns-in_err-take-clause-err c =
@@ -63,7 +63,7 @@ returns-in_err-take-clause-err c =
     on_err c.from_residual.result same
 
 pub invariant_of-self-2 : goal.invariant_of-self-2
-invariant_of-self-2 c = (step c).running
+invariant_of-self-2 c = record { running = (step c).running; marked = c.self.invariant.marked; clear = c.self.invariant.clear }
 
 pub returns-clause-done : goal.returns-clause-done
 returns-clause-done c = (step c).done ∙ ap (λ m. allows m (Take c.args.pass c.args.row)) c.self.view_is

@@ -12,7 +12,7 @@ use Rattle.era_core.proofs.arena.Core.unpin.Goals.{After-self-2-1}
 step : (c : After-self-2-1) → Stepped view_of c.self.inside.passes c.self.inside.rows c.self.inside.words.items c.self.inside.views.items (Unpin c.args.pass) true (set c.self.inside.words.items (1 + c.args.pass) 0) (record c.index_mut-view.result.now { pinned = None })
 step c =
     let it = c.self.inside in
-    let kept = c.self.invariant in
+    let kept = c.self.invariant.running in
     let pass : c.args.pass < it.passes = c.if-pass-self.false in
     let p = c.index_mut-view.result.now in
     let within : c.args.pass < length it.views.items = omega (arith, length-map it.views.items view_of, kept.counted, pass) in
@@ -24,7 +24,7 @@ step c =
     refl
 
 pub invariant_of-self : goal.invariant_of-self
-invariant_of-self c = (step c).running
+invariant_of-self c = record { running = (step c).running; marked = c.self.invariant.marked; clear = c.self.invariant.clear }
 
 pub returns-clause-done : goal.returns-clause-done
 returns-clause-done c = (step c).done ∙ ap (λ m. allows m (Unpin c.args.pass)) c.self.view_is

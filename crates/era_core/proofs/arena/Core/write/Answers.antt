@@ -14,7 +14,7 @@ use Rattle.era_core.proofs.arena.Core.write.Goals.{After-self-1}
 step : (c : After-self-1) → Stored view_of c.self.inside.passes c.self.inside.rows c.self.inside.words.items c.self.inside.views.items (Write c.args.pass c.args.row c.args.place c.args.word) true (set c.self.inside.words.items (1 + c.self.inside.passes + c.self.inside.rows + 40 * c.args.row + c.args.place) c.args.word)
 step c =
     let it = c.self.inside in
-    let kept = c.self.invariant in
+    let kept = c.self.invariant.running in
     let pass : c.args.pass < it.passes = c.if-pass-self.false in
     let row : c.args.row < it.rows = c.if-row-self.false in
     let place : c.args.place < 40 = c.if-place-ge40.false in
@@ -27,7 +27,7 @@ step c =
     refl
 
 pub invariant_of-self : goal.invariant_of-self
-invariant_of-self c = (step c).running
+invariant_of-self c = record { running = (step c).running; marked = c.self.invariant.marked; clear = c.self.invariant.clear }
 
 pub returns-clause-done : goal.returns-clause-done
 returns-clause-done c = (step c).done ∙ ap (λ m. allows m (Write c.args.pass c.args.row c.args.place c.args.word)) c.self.view_is
