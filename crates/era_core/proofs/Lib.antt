@@ -15,3 +15,4 @@ pub mod Readers
 pub mod Held
 pub mod Running
 pub mod Walks
+pub mod Marks
