@@ -14,5 +14,6 @@ pub mod Runs
 pub mod Readers
 pub mod Held
 pub mod Running
+pub mod Batches
 pub mod Walks
 pub mod Marks

@@ -179,3 +179,43 @@ module _ {A : Type 0} (f : A → View) (passes rows : ℕ) (ws : List ℕ) (xs :
 pub either_way : {A : Type 0} (b : Bool) (x : A) → x ≡ cond b x x
 either_way true x = refl
 either_way false x = refl
+
+-- there is an element at each place below the length
+pub at_place : {A : Type 0} (xs : List A) (i : ℕ) → i < length xs → (p : A) × (p ≡ get_or xs i p)
+at_place [] i inside = absurd (omega arith)
+at_place (x ∷ xs) zero inside = (x, refl)
+at_place (x ∷ xs) (suc i) inside = at_place xs i (omega arith)
+
+-- an element written where it stands
+pub set_same : {A : Type 0} (xs : List A) (i : ℕ) (p : A) → p ≡ get_or xs i p → set xs i p ≡ xs
+set_same [] i p is = refl
+set_same (x ∷ xs) zero p is = ap (λ y. y ∷ xs) is
+set_same (x ∷ xs) (suc i) p is = ap (λ ys. x ∷ ys) (set_same xs i p is)
+
+module _ {A : Type 0} (f : A → View) (passes rows : ℕ) (ws : List ℕ) (xs : List A) where
+  -- a running step that leaves the views
+  pub record Stored (e : Event) (ok : Bool) (us : List ℕ) : Type 0 where
+    pub done : ok ≡ allows (before f passes rows ws xs) e
+    pub next : record { rows = rows; passes = passes; words = us; views = map f xs } ≡ after (before f passes rows ws xs) e
+    pub running : IsRunning (record { rows = rows; passes = passes; words = us; views = map f xs })
+
+  pub stored : (e : Event) (done : Bool) (us : List ℕ) (p : A) → IsRunning (before f passes rows ws xs) → pass_of e < passes → p ≡ get_or xs (pass_of e) p
+      → done ≡ may passes rows ws (f p) e
+      → us ≡ cond done (words_after passes rows ws (f p) e) ws
+      → f p ≡ cond done (view_after passes rows ws (f p) e) (f p)
+      → Stored e done us
+  stored e done us p running inside is ok words view =
+      let s = stepped f passes rows ws xs e done us p p running inside is ok words view in
+      let same = set_same xs (pass_of e) p is in
+      record {
+        done = s.done;
+        next = ap (λ (ys : List A). record { rows = rows; passes = passes; words = us; views = map f ys }) (sym same) ∙ s.next;
+        running = subst (λ (ys : List A). IsRunning (record { rows = rows; passes = passes; words = us; views = map f ys })) same s.running;
+      }
+
+  -- a view that was written as it was
+  pub view_again : (i : ℕ) (p q : A) → p ≡ get_or xs i p → f q ≡ f p
+      → before f passes rows ws (set xs i q) ≡ before f passes rows ws xs
+  view_again i p q is same =
+      ap (λ vs. record { rows = rows; passes = passes; words = ws; views = vs })
+      (map-set f xs i q ∙ ap (set (map f xs) i) same ∙ sym (map-set f xs i p) ∙ ap (map f) (set_same xs i p is))
