@@ -16,3 +16,4 @@ pub mod Held
 pub mod Running
 pub mod Batches
 pub mod Walks
+pub mod Marks
