@@ -17,3 +17,4 @@ pub mod Running
 pub mod Batches
 pub mod Walks
 pub mod Marks
+pub mod Publication

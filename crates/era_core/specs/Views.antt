@@ -78,9 +78,13 @@ reading w v = record v { last = Some w }
 abbrev pub taking : ℕ → View → View
 taking r v = record v { fresh = v.fresh ++ r ∷ [] }
 
+-- these rows are still fresh, and those are retired with version n
+abbrev pub replacing : ℕ → List ℕ → List ℕ → View → View
+replacing n fresh gone v = record v { fresh = fresh; retired = v.retired ++ batch_of n gone; scanned = 0; least = None }
+
 -- Publish put the tree with the new rows in the place of version n, which has the old rows
 abbrev pub publishing : ℕ → List ℕ → List ℕ → View → View
-publishing n old new v = record v { fresh = without new v.fresh; retired = v.retired ++ batch_of n (without new old); scanned = 0; least = None }
+publishing n old new v = replacing n (without new v.fresh) (without new old) v
 
 abbrev pub unpinning : View → View
 unpinning v = record v { pinned = None }

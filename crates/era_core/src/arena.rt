@@ -5,6 +5,7 @@ ghost use Rattle.era_core.specs.Words.{version, root_row, reservation, start_wor
 ghost use Rattle.era_core.specs.Machine.{start, start_views, owner_of, cell_of, last_of};
 ghost use Rattle.era_core.specs.Passes.{view_of};
 
+mod publish;
 mod steps;
 
 use crate::pass::PassView;

@@ -3,7 +3,7 @@
 ghost use Rattle.std.specs.Prelude.{◌≡◌, ◌/◌, ◌%◌, ◌^◌, ◌&&◌, ◌||◌, ◌==◌, ◌<◌, [], ◌∷◌, filter, not, length, nat_lt, is_none, is_some, is_ok, if◌then◌else◌};
 ghost use Rattle.std.specs.List.{list_any};
 ghost use Rattle.era_core.specs.Lists.{is_in, without};
-ghost use Rattle.era_core.specs.Views.{start_view, noting, pinning, looking, reading, taking, freeing, clears, without_row, lesser, reserved as named_by};
+ghost use Rattle.era_core.specs.Views.{start_view, noting, pinning, looking, reading, taking, replacing, freeing, clears, without_row, lesser, reserved as named_by};
 ghost use Rattle.era_core.specs.Passes.{batches_of, view_of};
 
 use std::alloc::{AllocError, Global};
@@ -13,6 +13,14 @@ use std::alloc::{AllocError, Global};
 pub(crate) struct Retired {
     pub(crate) version: u64,
     pub(crate) rows: Vec<u32>,
+}
+
+/// What a new version leaves to its pass: the fresh rows that it has no use for, and the rows that only the version
+/// before had.
+#[derive(Drop)]
+pub(crate) struct Replaced {
+    pub(crate) fresh: Vec<u32>,
+    pub(crate) gone: Vec<u32>,
 }
 
 impl Retired {
@@ -169,6 +177,24 @@ impl PassView {
         } else {
             remove_retired(&mut self.retired, row);
         }
+    }
+
+    /// Retires the rows of a version that has passed, and ends the present scan. After want of memory nothing changed.
+    pub(crate) fn publish(&mut self, version: u64, rows: Replaced) -> Result<(), AllocError>
+        ensures { view_of self.new ≡ (if is_ok result then replacing version rows.fresh.items rows.gone.items (view_of self.old) else view_of self.old) }
+    {
+        let Replaced { fresh, gone } = rows;
+        if !gone.is_empty() {
+            let batch = Retired {
+                version,
+                rows: gone,
+            };
+            self.retired.push(batch)?;
+        }
+        self.fresh = fresh;
+        self.scanned = 0;
+        self.least = None;
+        Ok(())
     }
 
     /// Remembers the word that a Read found.
