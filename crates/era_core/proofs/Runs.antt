@@ -1,9 +1,11 @@
 -- Every event keeps a machine sound, so every schedule leaves a sound one.
-use Rattle.std.proofs.Common.{length, ◌≡◌, ℕ, zero, suc, ◌+◌, ◌-◌, ◌^◌, ◌<◌, ◌≤◌, ⊎_elim, inl, inr, Bool, true, false, cond, eqb, ltb, Option, Some, None, List, [], ◌∷◌, ◌++◌, set, slice_index, refl, sym, ap, subst, ◌∙◌, arith, length-set}
+use Rattle.std.proofs.Common.{length, take, drop, get_or, ◌≡◌, ℕ, zero, suc, ◌+◌, ◌-◌, ◌^◌, ◌<◌, ◌≤◌, ⊎_elim, inl, inr, Bool, true, false, cond, eqb, ltb, Option, Some, None, List, [], ◌∷◌, ◌++◌, set, slice_index, refl, sym, ap, subst, ◌∙◌, arith, length-set}
 use Rattle.std.specs.Prelude.{◌&&◌, ◌||◌, is_none, is_some, option_map, slice_get}
 use Rattle.std.specs.List.{list_all, list_any}
 use Rattle.std.proofs.lemmas.Bool.{and_parts, or_cases, eqb-true, ltb-true, false≢true}
 use Rattle.std.proofs.lemmas.Option.{same_Some, none-some}
+use Rattle.std.proofs.lemmas.List.{take_more, take-append-drop, length-take-le}
+use Rattle.std.proofs.Math.Seq.{drop-cons}
 use Rattle.era_core.specs.Lists.{times, In, is_in, all_different, without}
 use Rattle.era_core.specs.Words.{root_word, owner_at, reservation, owner, cell, tree_at}
 use Rattle.era_core.specs.Views.{View, clears, taking, without_row}
@@ -242,3 +244,25 @@ first_refused-here [] more e m none denied = refusal_now e more m denied
 first_refused-here (d ∷ es) more e m none denied =
     let first = first_allowed d es m none in
     refusal_later d (es ++ e ∷ more) m first.0 ∙ ap (option_map suc) (first_refused-here es more e (after m d) first.1 denied)
+
+-- the events of a list up to one, and what that one leaves
+module _ (es : List Event) (i : ℕ) (d : Event) (m core : Machine) (inside : i < length es) (so_far : core ≡ play (take i es) m) where
+  pub play_more : (next : Machine) → next ≡ after core (get_or es i d) → next ≡ play (take (i + 1) es) m
+  play_more next is =
+      is ∙ ap (λ (x : Machine). after x (get_or es i d)) so_far ∙ sym (play-push (take i es) (get_or es i d) m) ∙ ap (λ (l : List Event). play l m) (sym (take_more es i d inside))
+
+  module _ (none : first_refused (take i es) m ≡ None) (ok : Bool) (is : ok ≡ allows core (get_or es i d)) where
+    allowed_there : ok ≡ allows (play (take i es) m) (get_or es i d)
+    allowed_there = is ∙ ap (λ (x : Machine). allows x (get_or es i d)) so_far
+
+    pub first_refused_later : ok ≡ true → first_refused (take (i + 1) es) m ≡ None
+    first_refused_later allowed =
+        ap (λ (l : List Event). first_refused l m) (take_more es i d inside) ∙ first_refused-push (take i es) (get_or es i d) m none (sym allowed_there ∙ allowed)
+
+    pub first_refused_at : ok ≡ false → first_refused es m ≡ Some i
+    first_refused_at denied =
+        let parts : es ≡ take i es ++ get_or es i d ∷ drop (suc i) es = sym (take-append-drop i es) ∙ ap (λ (l : List Event). take i es ++ l) (drop-cons es i d inside) in
+        let before : length (take i es) ≡ i = length-take-le i es (omega arith) in
+        ap (λ (l : List Event). first_refused l m) parts
+        ∙ first_refused-here (take i es) (drop (suc i) es) (get_or es i d) m none (sym allowed_there ∙ denied)
+        ∙ ap (λ (n : ℕ). Some n) before

@@ -6,3 +6,4 @@ pub mod Sound
 pub mod Machine
 pub mod Schedules
 pub mod Passes
+pub mod Refusals

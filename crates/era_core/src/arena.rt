@@ -1,14 +1,17 @@
 //! The machine as it runs.
 
-ghost use Rattle.std.specs.Prelude.{◌≡◌, ℕ, ◌<◌, ◌≤◌, map, replicate, false, IfOk};
+ghost use Rattle.std.specs.Prelude.{◌≡◌, ℕ, ◌<◌, ◌≤◌, map, replicate, false, IfOk, OnOk, OnErr, IfErr, None};
 ghost use Rattle.era_core.specs.Words.{version, root_row, reservation, start_words};
-ghost use Rattle.era_core.specs.Machine.{start, start_views, owner_of, cell_of, last_of};
+ghost use Rattle.era_core.specs.Machine.{start, start_views, start_copies, owner_of, cell_of, last_of, allows, after, play, copies, first_refused, IsSound};
+ghost use Rattle.era_core.specs.Refusals.{IsFirstRefused};
 ghost use Rattle.era_core.specs.Passes.{view_of};
 
 mod publish;
 mod steps;
 
+use crate::event::Event;
 use crate::pass::PassView;
+use crate::play::PlayRefusal;
 use std::alloc::{AllocError, Global};
 use std::marker::Model;
 
@@ -85,6 +88,62 @@ impl Core {
             views,
             marks,
         })
+    }
+
+    /// Lets the event happen: false exactly where it is not allowed. Then, and after want of memory, nothing changed.
+    pub fn step(&mut self, event: Event) -> Result<bool, AllocError>
+        ensures allowed { IfOk result (λ done. done ≡ allows self.old event) }
+        ensures next { OnOk result (self.new ≡ after self.old event) }
+        ensures err { OnErr result (self.new ≡ self.old) }
+    {
+        match event {
+            Event::Note { pass } => Ok(self.note(pass)),
+            Event::Announce { pass } => Ok(self.announce(pass)),
+            Event::Pin { pass } => Ok(self.pin(pass)),
+            Event::Read { pass, row, place } => self.read(pass, row, place),
+            Event::Take { pass, row } => self.take(pass, row),
+            Event::Write {
+                pass,
+                row,
+                place,
+                word,
+            } => Ok(self.write(pass, row, place, word)),
+            Event::Publish { pass, root } => self.publish(pass, root),
+            Event::Unpin { pass } => Ok(self.unpin(pass)),
+            Event::Look { pass, other } => Ok(self.look(pass, other)),
+            Event::Free { pass, row } => Ok(self.free(pass, row)),
+        }
+    }
+
+    /// Plays the events from the start, with so many rows, 1 to 262,144, and passes, 1 to 64. `Illegal` comes exactly
+    /// where an event is not allowed, with the index of the first; else the machine is as the events leave it, and
+    /// sound with the versions that they published.
+    pub fn play(
+        alloc: Global,
+        rows: u32,
+        passes: u32,
+        events: &[Event],
+    ) -> Result<Core, PlayRefusal>
+        requires some_row { 0 < rows }
+        requires few_rows { rows ≤ 262144 }
+        requires some_pass { 0 < passes }
+        requires few_passes { passes ≤ 64 }
+        ensures played { IfOk result (λ core. core ≡ play events.now (start rows passes)) }
+        ensures sound { IfOk result (λ core. IsSound core (copies events.now (start rows passes) (start_copies rows passes))) }
+        ensures allowed { OnOk result (first_refused events.now (start rows passes) ≡ None) }
+        ensures refused { IfErr result (IsFirstRefused events.now (start rows passes)) }
+    {
+        let Ok(mut core) = Core::start(alloc, rows, passes) else {
+            return Err(PlayRefusal::Memory);
+        };
+        for (index, event) in events.iter().enumerate() {
+            match core.step(*event) {
+                Ok(true) => {}
+                Ok(false) => return Err(PlayRefusal::Illegal(index)),
+                Err(_) => return Err(PlayRefusal::Memory),
+            }
+        }
+        Ok(core)
     }
 
     /// The version that is published, and its root row.

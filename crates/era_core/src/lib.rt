@@ -11,6 +11,7 @@ mod arena;
 mod event;
 mod laws;
 mod pass;
+mod play;
 mod walk;
 
 pub use arena::Core;
@@ -19,6 +20,7 @@ pub use laws::{
     events_keep_soundness, fresh_reads, pinned_reads, schedules_are_sound, taken_rows_are_unread,
     versions_stand,
 };
+pub use play::PlayRefusal;
 
 /// How many words a row has.
 pub const WIDTH: u32 = 40;
