@@ -266,3 +266,22 @@ module _ (es : List Event) (i : ℕ) (d : Event) (m core : Machine) (inside : i 
         ap (λ (l : List Event). first_refused l m) parts
         ∙ first_refused-here (take i es) (drop (suc i) es) (get_or es i d) m none (sym allowed_there ∙ denied)
         ∙ ap (λ (n : ℕ). Some n) before
+
+-- no event changes how many rows and passes there are
+after_sizes : (m : Machine) (e : Event) → ((after m e).rows ≡ m.rows) × ((after m e).passes ≡ m.passes)
+after_sizes m e = by_test (allows m e)
+  where
+    by_view : (o : Option View) → ((after_at m e o).rows ≡ m.rows) × ((after_at m e o).passes ≡ m.passes)
+    by_view None = (refl, refl)
+    by_view (Some v) = (refl, refl)
+
+    by_test : (b : Bool) → ((cond b (after_at m e (slice_get m.views (pass_of e))) m).rows ≡ m.rows) × ((cond b (after_at m e (slice_get m.views (pass_of e))) m).passes ≡ m.passes)
+    by_test true = by_view (slice_get m.views (pass_of e))
+    by_test false = (refl, refl)
+
+pub play_sizes : (es : List Event) (m : Machine) → ((play es m).rows ≡ m.rows) × ((play es m).passes ≡ m.passes)
+play_sizes [] m = (refl, refl)
+play_sizes (e ∷ es) m =
+    let rest = play_sizes es (after m e) in
+    let first = after_sizes m e in
+    (rest.0 ∙ first.0, rest.1 ∙ first.1)

@@ -130,6 +130,8 @@ impl Core {
         requires few_passes { passes ≤ 64 }
         ensures played { IfOk result (λ core. core ≡ play events.now (start rows passes)) }
         ensures sound { IfOk result (λ core. IsSound core (copies events.now (start rows passes) (start_copies rows passes))) }
+        ensures rows { IfOk result (λ core. core.rows ≡ rows) }
+        ensures passes { IfOk result (λ core. core.passes ≡ passes) }
         ensures allowed { OnOk result (first_refused events.now (start rows passes) ≡ None) }
         ensures refused { IfErr result (IsFirstRefused events.now (start rows passes)) }
     {

@@ -12,6 +12,8 @@ mod event;
 mod laws;
 mod pass;
 mod play;
+#[cfg(test)]
+mod tests;
 mod walk;
 
 pub use arena::Core;

@@ -102,7 +102,8 @@ impl Core {
             row,
             root,
             &mut self.marks,
-        )? else {
+        )?
+        else {
             return Ok(false);
         };
         if self.words[0] != root_word(version, row) {

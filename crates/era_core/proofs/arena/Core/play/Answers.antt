@@ -1,8 +1,8 @@
-use Rattle.std.proofs.Common.{List, sym, ap, subst, ◌∙◌, arith}
+use Rattle.std.proofs.Common.{List, take, sym, ap, subst, ◌∙◌, arith}
 use Rattle.std.proofs.lemmas.List.{take_all}
 use Rattle.era_core.specs.Machine.{Machine, IsSound, start, start_copies, play, copies}
 use Rattle.era_core.specs.declared.event.Event.{Event}
-use Rattle.era_core.proofs.Runs.{every_schedule, play_more, first_refused_later, first_refused_at}
+use Rattle.era_core.proofs.Runs.{every_schedule, play_sizes, play_more, first_refused_later, first_refused_at}
 use Rattle.era_core.proofs.arena.Core.play.Goals as goal
 
 pub loop-index-preserved : goal.loop-index-preserved
@@ -26,3 +26,11 @@ returns-clause-sound c =
     let known = copies c.args.events.now m (start_copies c.args.rows c.args.passes) in
     subst (λ (x : Machine). IsSound x known) (sym (c.loop-index.invariant.played ∙ ap (λ (l : List Event). play l m) (take_all c.loop-index.index c.args.events.now c.loop-index-test.false)))
     (every_schedule c.args.rows c.args.passes c.args.events.now c.requires.some_row c.requires.few_rows)
+
+pub returns-clause-rows : goal.returns-clause-rows
+returns-clause-rows c =
+    ap (λ (x : Machine). x.rows) c.loop-index.invariant.played ∙ (play_sizes (take c.loop-index.index c.args.events.now) (start c.args.rows c.args.passes)).0
+
+pub returns-clause-passes : goal.returns-clause-passes
+returns-clause-passes c =
+    ap (λ (x : Machine). x.passes) c.loop-index.invariant.played ∙ (play_sizes (take c.loop-index.index c.args.events.now) (start c.args.rows c.args.passes)).1

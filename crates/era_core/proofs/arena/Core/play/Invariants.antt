@@ -6,5 +6,5 @@ use Rattle.era_core.proofs.arena.Core.play.Given as goal
 abbrev pub invariant-loop-index : goal.invariant-loop-index
 invariant-loop-index l = record {
   played : l.core ≡ play (take l.index l.events) (start l.rows l.passes);
-  allowed : first_refused (take l.index l.events) (start l.rows l.passes) ≡ None
+  allowed : first_refused (take l.index l.events) (start l.rows l.passes) ≡ None;
 }
