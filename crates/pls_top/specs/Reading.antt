@@ -1,11 +1,11 @@
-use Rattle.std.specs.Prelude.{ℕ, ◌&&◌, nat_le, Bool, List, [], ◌∷◌, length, Option, Some, None, Result, Ok, Err, if◌then◌else◌, codes, slice_index}
+use Rattle.std.specs.Prelude.{ℕ, ◌&&◌, nat_le, List, [], ◌∷◌, length, Option, Some, None, Result, Ok, Err, if◌then◌else◌, codes, slice_index}
 use Rattle.std.specs.Str.{all_ascii_digits, bytes_eq}
 use Rattle.std.specs.Str.Parse.{digits_value}
 use Rattle.pls_io.specs.Words.{PlacedWord, words}
 use Rattle.pls_knapsack.specs.Instance.{Instance}
 use Rattle.pls_knapsack.specs.Text.{Limits, size_limits, number_limits, instance_of}
 use Rattle.pls_top.specs.declared.reader.BadInstance.{BadInstance}
-use Rattle.pls_top.specs.declared.reader.BadInstance.TheVariants.{Head, Short, Word, Range, Extra, Shape, Memory}
+use Rattle.pls_top.specs.declared.reader.BadInstance.TheVariants.{Head, Short, Word, Range, Extra, Shape}
 
 -- what follows a successful reading; a fault stays
 abbrev pub reading_then : {A B : Type 0} → (A → Result B BadInstance) → Result A BadInstance → Result B BadInstance

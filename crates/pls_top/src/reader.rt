@@ -1,6 +1,6 @@
 //! The reader of an instance's text.
 
-ghost use Rattle.std.specs.Prelude.{◌≡◌, ◌⊎◌, ◌<◌, ◌≤◌, ◌^◌, ◌*◌, ◌-◌, [], ◌∷◌, length, replicate, vec_len, min, true, false, All, IfOk, IfErr, IfSome, IfNone, OnOk, Ok, Err};
+ghost use Rattle.std.specs.Prelude.{◌≡◌, ◌⊎◌, ◌<◌, ◌≤◌, ◌^◌, ◌-◌, [], ◌∷◌, length, replicate, min, true, false, All, IfOk, IfErr, IfSome, IfNone, OnOk, Ok, Err};
 ghost use Rattle.std.specs.Str.{all_ascii_digits};
 ghost use Rattle.std.specs.Str.Parse.{digits_value};
 ghost use Rattle.pls_io.specs.Words.{placed};

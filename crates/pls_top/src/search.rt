@@ -1,13 +1,13 @@
 //! Pareto local search on one thread, over a plain list of the members.
 
-ghost use Rattle.std.specs.Prelude.{◌≡◌, ℕ, ◌+◌, ◌-◌, ◌^◌, ◌<◌, ◌≤◌, true, not, ◌&&◌, All, IfOk, OnOk, filter, length, vec_len, vec_capacity};
+ghost use Rattle.std.specs.Prelude.{◌≡◌, ◌+◌, ◌-◌, ◌^◌, ◌<◌, ◌≤◌, true, not, ◌&&◌, IfOk, OnOk, filter, vec_len, vec_capacity};
 ghost use Rattle.std.specs.Cmp.Lexicographic.{slice_cmp};
 ghost use Rattle.std.specs.List.Sorted.{IsPermutation, IsSortedByKey};
 ghost use Rattle.std.specs.Ordering.{int_cmp};
 ghost use Rattle.pls_vectors.specs.Archive.{dominates};
 ghost use Rattle.pls_vectors.specs.Dominance.{weakly_dominates};
-ghost use Rattle.pls_knapsack.specs.Instance.{feasible, value};
-ghost use Rattle.pls_archive.specs.Reply.{point_weakly_dominates, some_weakly_dominates, has_value};
+ghost use Rattle.pls_knapsack.specs.Instance.{feasible};
+ghost use Rattle.pls_archive.specs.Reply.{some_weakly_dominates, has_value};
 ghost use Rattle.pls_top.specs.Sequential.{run_from};
 ghost use Rattle.pls_top.specs.Search.{HasFeasible, Submits, Explores, Visits, ExploresAll, Reports, Shows};
 
@@ -130,13 +130,13 @@ impl SearchState {
         }
         self.archive.try_reserve(1)?;
         self.tasks.try_reserve(1)?;
-        let point = Point {
+        drop_dominated(&mut self.archive, value);
+        let point = &Point {
             value: *value,
             sol: *sol,
         };
-        drop_dominated(&mut self.archive, &point);
-        self.archive.push_reserved(point);
-        self.tasks.push_reserved(point);
+        self.archive.push_reserved(*point);
+        self.tasks.push_reserved(*point);
         Ok(())
     }
 
@@ -180,12 +180,12 @@ fn is_member(points: &[Point], value: &Vector) -> bool
 }
 
 /// Keeps the points that the value does not dominate, in their order.
-fn drop_dominated(points: &mut Vec<Point>, point: &Point)
-    ensures items { points.new.items ≡ filter (λ q. not (dominates point_weakly_dominates point.now q)) points.old.items }
+fn drop_dominated(points: &mut Vec<Point>, value: &Vector)
+    ensures items { points.new.items ≡ filter (λ q. not (dominates weakly_dominates value.now q.value)) points.old.items }
     ensures len { vec_len points.new ≤ vec_len points.old }
     ensures capacity { vec_capacity points.new ≡ vec_capacity points.old }
 {
-    points.retain(|other| !dominates(&point.value, &other.value));
+    points.retain(|point| !dominates(value, &point.value));
 }
 
 /// Whether a value weakly dominates another; it does not where their lengths differ.
@@ -233,65 +233,68 @@ fn lex(a: &Vector, b: &Vector) -> Ordering
 #[cfg(test)]
 mod tests {
     use super::*;
+    use crate::reader::read;
     use std::process::Abort;
     use std::test::Fail;
 
-    // Searches from these items, and compares the end, the counts (explored, evaluated, accepted)
-    // and the values of the front with what is wanted. Returns the front.
+    // Searches the instance of a text from these items, and compares the end and the counts
+    // (explored, evaluated, accepted) with what is wanted. Returns the front.
     fn search_from<R: Abort>(
         rt: &R,
         alloc: Global,
-        instance: &Knapsack,
+        text: &str,
         items: &[u16],
         moves: u64,
         end: End,
         counts: [u64; 3],
     ) -> Result<PointList, Fail> {
+        assert!(rt; text.len() < 1000);
+        let instance = read(alloc, text.as_bytes()).expect(rt, "an instance");
         let mut start = Sol::bits(instance.size());
         for item in items {
             assert!(rt; *item < start.len());
             start.set_bit(*item, true);
         }
         assert!(rt; instance.is_feasible(&start));
-        let outcome = search(alloc, instance, &start, moves)?;
-        assert_eq!(rt; outcome.end, end, "the end after {moves} moves");
+        let outcome = search(alloc, &instance, &start, moves)?;
         let found = outcome.counts;
+        assert_eq!(rt; outcome.end, end, "the end after {moves} moves");
         assert_eq!(rt;
             [found.explored, found.evaluated, found.accepted],
             counts,
-            "the counts after {moves} moves"
+            "after {moves} moves"
         );
         Ok(outcome.front)
     }
 
     #[test]
     fn searches_small_instances(rt: HostRuntime) -> Result<(), Fail> {
-        let three = Knapsack::new(rt.alloc(), 3, &[3, 1, 2, 1, 3, 2], &[5], &[2, 3, 4])?;
-        let two = Knapsack::new(rt.alloc(), 2, &[3, 1, 1, 3], &[10], &[2, 3])?;
-        // the start, the moves, the end, the counts, and the front: values and items
+        let three = "pls1 knapsack 2 3 1\n5\n3 1 2\n1 3 2\n2 3 4\n";
+        let two = "pls1 knapsack 2 2 1\n10\n3 1\n1 3\n2 3\n";
         let both: &[([i64; 2], &[u16])] = &[([4, 4], &[0, 1])];
         let each: &[([i64; 2], &[u16])] = &[([1, 3], &[1]), ([2, 2], &[2]), ([3, 1], &[0])];
-        let cases: [(&Knapsack, &[u16], u64, End, [u64; 3], &[([i64; 2], &[u16])]); 5] = [
-            (&three, &[2], 9, End::Closed, [3, 9, 4], both),
-            (&three, &[2], 7, End::Stopped, [2, 7, 4], both),
-            (&three, &[2], 3, End::Stopped, [1, 3, 3], each),
-            (&two, &[0, 1], 2, End::Closed, [1, 2, 1], both),
-            (&two, &[0, 1], 0, End::Stopped, [0, 0, 1], both),
+        // the instance, the start, the moves, the end, the counts, and the values and items of the front
+        let cases: [(&str, &[u16], u64, End, [u64; 3], &[([i64; 2], &[u16])]); 5] = [
+            (three, &[2], 9, End::Closed, [3, 9, 4], both),
+            (three, &[2], 7, End::Stopped, [2, 7, 4], both),
+            (three, &[2], 3, End::Stopped, [1, 3, 3], each),
+            (two, &[0, 1], 2, End::Closed, [1, 2, 1], both),
+            (two, &[0, 1], 0, End::Stopped, [0, 0, 1], both),
         ];
-        for (instance, items, moves, end, counts, wanted) in cases {
-            let front = search_from(&rt, rt.alloc(), instance, items, moves, end, counts)?;
+        for (text, start, moves, end, counts, wanted) in cases {
+            let front = search_from(&rt, rt.alloc(), text, start, moves, end, counts)?;
             let points = front.as_slice();
             assert_eq!(rt; points.len(), wanted.len(), "the front after {moves} moves");
-            for (point, (value, chosen)) in points.iter().zip(wanted) {
+            for (point, (value, items)) in points.iter().zip(wanted) {
                 assert_eq!(rt;
                     Some(point.value),
                     Vector::new(value),
-                    "a value after {moves} moves"
+                    "after {moves} moves"
                 );
                 for item in 0..point.sol.len() {
                     assert_eq!(rt;
                         point.sol.bit(item),
-                        chosen.contains(&item),
+                        items.contains(&item),
                         "item {item} after {moves} moves"
                     );
                 }
@@ -303,19 +306,15 @@ mod tests {
     #[test]
     fn finds_all_of_64_points(rt: HostRuntime) -> Result<(), Fail> {
         // six pairs of items, of each of which one fits
-        let pairs = Knapsack::new(
-            rt.alloc(),
-            12,
-            &[
-                1, 2, 4, 8, 16, 32, 0, 0, 0, 0, 0, 0, 0, 0, 0, 0, 0, 0, 1, 2, 4, 8, 16, 32,
-            ],
-            &[1, 1, 1, 1, 1, 1],
-            &[
-                1, 0, 0, 0, 0, 0, 1, 0, 0, 0, 0, 0, 0, 1, 0, 0, 0, 0, 0, 1, 0, 0, 0, 0, 0, 0, 1, 0,
-                0, 0, 0, 0, 1, 0, 0, 0, 0, 0, 0, 1, 0, 0, 0, 0, 0, 1, 0, 0, 0, 0, 0, 0, 1, 0, 0, 0,
-                0, 0, 1, 0, 0, 0, 0, 0, 0, 1, 0, 0, 0, 0, 0, 1,
-            ],
-        )?;
+        let pairs = "pls1 knapsack 2 12 6\n1 1 1 1 1 1\n\
+            1 2 4 8 16 32 0 0 0 0 0 0\n\
+            0 0 0 0 0 0 1 2 4 8 16 32\n\
+            1 0 0 0 0 0 1 0 0 0 0 0\n\
+            0 1 0 0 0 0 0 1 0 0 0 0\n\
+            0 0 1 0 0 0 0 0 1 0 0 0\n\
+            0 0 0 1 0 0 0 0 0 1 0 0\n\
+            0 0 0 0 1 0 0 0 0 0 1 0\n\
+            0 0 0 0 0 1 0 0 0 0 0 1\n";
         let cases = [
             (768, End::Closed, [64, 768, 64]),
             (767, End::Stopped, [63, 767, 64]),
@@ -324,17 +323,21 @@ mod tests {
             let front = search_from(
                 &rt,
                 rt.alloc(),
-                &pairs,
+                pairs,
                 &[0, 1, 2, 3, 4, 5],
                 moves,
                 end,
                 counts,
             )?;
             let points = front.as_slice();
-            assert_eq!(rt; points.len(), 64);
+            assert_eq!(rt; points.len(), 64, "the front after {moves} moves");
             for (i, point) in points.iter().enumerate() {
                 let value = [i as i64, 63 - i as i64];
-                assert_eq!(rt; Some(point.value), Vector::new(&value), "point {i}");
+                assert_eq!(rt;
+                    Some(point.value),
+                    Vector::new(&value),
+                    "point {i} after {moves} moves"
+                );
             }
         }
         Ok(())
