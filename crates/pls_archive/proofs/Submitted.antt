@@ -54,7 +54,7 @@ module _
   submissions-All starts moves each =
       let begins : Holds (begun reply neighbours starts moves).history = submitting-All starts [] each (λ k d inside. absurd (omega arith)) in
       let ends : Holds (ended reply neighbours starts moves).history =
-        exploring_all-keeps reply neighbours (λ r. Holds r.history) exploring-All _ 0 (begun reply neighbours starts moves) begins in
+      exploring_all-keeps reply neighbours (λ r. Holds r.history) exploring-All _ 0 (begun reply neighbours starts moves) begins in
       subst (All C) (sym (submissions-with_snapshot reply 0 (ended reply neighbours starts moves).history)) ends
 
   -- and of the members in order

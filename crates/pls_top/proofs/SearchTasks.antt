@@ -1,71 +1,16 @@
 -- A search goes over its tasks as the run goes over the accepted points.
-use Rattle.std.proofs.Common.{◌≡◌, ℕ, get_or, zero, suc, ◌+◌, ◌-◌, ◌<◌, ◌≤◌, Bool, true, false, ◌&&◌, nat_le, List, [], ◌++◌, length, Option, Some, refl, sym, ap, ◌∙◌, subst, arith, add-one}
+use Rattle.std.proofs.Common.{◌≡◌, ℕ, get_or, zero, suc, ◌+◌, ◌-◌, ◌<◌, ◌≤◌, Bool, true, false, List, length, Option, Some, refl, sym, ap, ◌∙◌, subst, arith, add-one}
 use Rattle.std.specs.List.{slice_get}
-use Rattle.std.proofs.lemmas.Bool.{both_ways, le-leb, and_from}
 use Rattle.std.proofs.lemmas.Option.{slice_get_past, slice_get-get_or}
 use Rattle.pls_archive.specs.declared.point.Point.{Point}
-use Rattle.pls_archive.specs.declared.call.Call.TheVariants.{Member}
 use Rattle.pls_archive.specs.declared.call.Entry.{Entry}
-use Rattle.pls_archive.specs.History.{submissions, accepted, with_call}
-use Rattle.pls_archive.specs.Reply.{members, has_value, nondominated}
-use Rattle.pls_archive.specs.Run.{Run, is_no, unless_cut, for_point, skips, exploring, exploring_all}
-use Rattle.pls_archive.proofs.Histories.{submissions-with_member, accepted-with_member, stamp-of_member}
-use Rattle.pls_archive.proofs.Members.{member-no, member-yes}
-use Rattle.pls_archive.proofs.Runs.{exploring-by_cases}
+use Rattle.pls_archive.specs.History.{accepted}
+use Rattle.pls_archive.specs.Reply.{nondominated}
+use Rattle.pls_archive.specs.Run.{Run, unless_cut, for_point, exploring, exploring_all}
 use Rattle.pls_knapsack.specs.Instance.{Instance}
 use Rattle.pls_top.specs.Sequential.{neighbour_points}
-use Rattle.pls_top.specs.Search.{Follows, IsAt, run_at, Explores, Visits, ExploresAll}
+use Rattle.pls_top.specs.Search.{Follows, IsAt, run_at, Visits, ExploresAll}
 use Rattle.pls_top.specs.declared.search.SearchState.{SearchState}
-
--- the question whether a point is a member changes nothing
-Follows-member :
-    (history : List Entry) (p : Point) (state : SearchState) → Follows history state
-    → Follows (with_call nondominated 0 history (Member p.value)) state
-Follows-member history p state follows = record {
-  archive = follows.archive ∙ ap members (sym (submissions-with_member nondominated 0 history p.value));
-  tasks = follows.tasks ∙ sym (accepted-with_member nondominated 0 history p.value);
-}
-
-module _ (near : Point → List Point) (history : List Entry) (p : Point) where
-  skips-where_none :
-      (stamp : ℕ) → has_value (members (submissions history)) p.value ≡ false → stamp ≤ length (accepted history)
-      → skips nondominated near history stamp p ≡ true
-  skips-where_none stamp none early =
-      and_from _ _ (ap is_no (member-no (submissions history) p.value none))
-      (ap (nat_le stamp) (stamp-of_member nondominated 0 history p.value) ∙ le-leb stamp (length (accepted history)) early)
-
-  skips-where_some :
-      (stamp : ℕ) → has_value (members (submissions history)) p.value ≡ true → skips nondominated near history stamp p ≡ false
-  skips-where_some stamp some =
-      ap (λ answer. is_no answer && nat_le stamp (length (accepted history ++ []))) (member-yes (submissions history) p.value some)
-
--- a task that is no member is skipped
-pub Visits-skip :
-    (k : Instance) (p : Point) (state : SearchState) → has_value state.archive.items p.value ≡ false → Visits k p state state true
-Visits-skip k p state none = record {
-  runs = λ history stamp follows early.
-      let near = neighbour_points k in
-      let none' = subst (λ (ms : List Point). has_value ms p.value ≡ false) follows.archive none in
-      let early' = subst (λ (ts : List Point). stamp ≤ length ts) follows.tasks early in
-      let skipped = skips-where_none near history p stamp none' early' in
-      exploring-by_cases nondominated near (λ run. IsAt run state true) (run_at history state) stamp p
-      (λ skips. record { follows = Follows-member history p state follows; moves_left = refl; explored = refl; cut = refl })
-      (λ whole. absurd (both_ways _ whole skipped));
-}
-
--- a task that is a member is explored
-pub Visits-explore :
-    (k : Instance) (p : Point) (before after : SearchState) (whole : Bool) → has_value before.archive.items p.value ≡ true
-    → Explores k p before after whole → Visits k p before after whole
-Visits-explore k p before after whole some explores = record {
-  runs = λ history stamp follows early.
-      let near = neighbour_points k in
-      let some' = subst (λ (ms : List Point). has_value ms p.value ≡ true) follows.archive some in
-      let explored = skips-where_some near history p stamp some' in
-      exploring-by_cases nondominated near (λ run. IsAt run after whole) (run_at history before) stamp p
-      (λ skips. absurd (both_ways _ explored skips))
-      (λ goes. explores.runs (with_call nondominated 0 history (Member p.value)) (Follows-member history p before follows));
-}
 
 -- the run over all tasks that began at a state goes on at another, after so many tasks
 pub record AllGoOn (k : Instance) (before now : SearchState) (done : ℕ) : Type 0 where
