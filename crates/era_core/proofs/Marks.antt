@@ -16,7 +16,7 @@ in_at [] i d below = absurd (omega arith)
 in_at (x ∷ xs) zero d below = in_head x xs
 in_at (x ∷ xs) (suc i) d below = in_tail (get_or xs i d) x xs (in_at xs i d (omega arith))
 
-pub list_all-from : (test : ℕ → Bool) (xs : List ℕ) → ((x : ℕ) → In x xs → test x ≡ true) → list_all test xs ≡ true
+list_all-from : (test : ℕ → Bool) (xs : List ℕ) → ((x : ℕ) → In x xs → test x ≡ true) → list_all test xs ≡ true
 list_all-from test [] each = refl
 list_all-from test (x ∷ xs) each =
     and_from (test x) (list_all test xs) (each x (in_head x xs)) (list_all-from test xs (λ y here. each y (in_tail y x xs here)))
@@ -25,7 +25,7 @@ pub list_all-same : (f g : ℕ → Bool) (xs : List ℕ) → ((x : ℕ) → f x 
 list_all-same f g [] same = refl
 list_all-same f g (x ∷ xs) same = ap (λ b. b && list_all f xs) (same x) ∙ ap (λ b. g x && b) (list_all-same f g xs same)
 
-pub different_from_once : (xs : List ℕ) → ((x : ℕ) → times x xs ≤ 1) → all_different xs ≡ true
+different_from_once : (xs : List ℕ) → ((x : ℕ) → times x xs ≤ 1) → all_different xs ≡ true
 different_from_once xs once = list_all-from (λ x. eqb (times x xs) 1) xs (λ x here. eq-eqb (times x xs) 1 (let most = once x in omega arith))
 
 -- a list with one more row
@@ -62,7 +62,7 @@ linked-more f rows place end w all below is row so_far =
     sym (ap (λ n. list_all (λ y. ltb y rows) (run_of f place n)) more ∙ ap (λ b. b && rest) (lt-ltb (f place) rows (omega arith))) ∙ so_far
 
 -- a mark in the range of none
-pub marked_within : (marks : List Bool) (x : ℕ) → get_or marks x false ≡ true → x < length marks
+marked_within : (marks : List Bool) (x : ℕ) → get_or marks x false ≡ true → x < length marks
 marked_within [] x has = absurd (false≢true has)
 marked_within (b ∷ marks) zero has = omega arith
 marked_within (b ∷ marks) (suc x) has = let rest = marked_within marks x has in omega arith
@@ -88,13 +88,6 @@ module _ (passes rows : ℕ) (ws : List ℕ) where
     pub marked : list_all (λ x. get_or before x false) found ≡ true
     pub once : (x : ℕ) → times x found ≤ 1
     pub left : (x : ℕ) → get_or now x false ≡ (get_or before x false && not (is_in x found))
-
-  pub coming_none : (before : List Bool) → Coming before before []
-  coming_none before = record { linked = refl; marked = refl; once = λ x. omega arith; left = λ x. and_true (get_or before x false) }
-    where
-      and_true : (b : Bool) → b ≡ (b && true)
-      and_true true = refl
-      and_true false = refl
 
   module _ (before now : List Bool) (found : List ℕ) (coming : Coming before now found) where
     -- a row that may come has not come yet

@@ -1,5 +1,5 @@
 -- A Publish of the running machine: refused, too late, or done.
-use Rattle.std.proofs.Common.{◌≡◌, ◌≢◌, ℕ, zero, suc, ◌+◌, ◌-◌, ◌^◌, ◌<◌, ⊎_elim, Bool, true, false, cond, ltb, Some, List, [], ◌∷◌, ◌++◌, map, get_or, length, take, drop, set, refl, sym, ap, ◌∙◌, arith, lt-ltb, eq-eqb, ne_eqb}
+use Rattle.std.proofs.Common.{◌≡◌, ◌≢◌, ℕ, zero, suc, ◌+◌, ◌-◌, ◌^◌, ◌<◌, ⊎_elim, Bool, true, false, cond, ltb, Some, List, [], ◌∷◌, ◌++◌, get_or, length, take, drop, set, refl, sym, ap, ◌∙◌, arith, lt-ltb, eq-eqb, ne_eqb}
 use Rattle.std.specs.Prelude.{◌&&◌, ◌||◌, slice_index}
 use Rattle.std.specs.List.{list_all}
 use Rattle.std.proofs.lemmas.Bool.{and_from, and_parts, or_cases, ltb-true}

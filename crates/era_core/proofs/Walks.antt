@@ -39,23 +39,23 @@ pending links [] = []
 pending links (x ∷ xs) = pending links xs ++ tree links x.1 x.0
 
 module _ (links : ℕ → List ℕ) where
-  pub pending-append : (xs ys : List (ℕ × ℕ)) → pending links (xs ++ ys) ≡ pending links ys ++ pending links xs
+  pending-append : (xs ys : List (ℕ × ℕ)) → pending links (xs ++ ys) ≡ pending links ys ++ pending links xs
   pending-append [] ys = sym (append-nil (pending links ys))
   pending-append (x ∷ xs) ys =
       ap (λ zs. zs ++ tree links x.1 x.0) (pending-append xs ys) ∙ append_assoc (pending links ys) (pending links xs) (tree links x.1 x.0)
 
-  pub pending-push : (xs : List (ℕ × ℕ)) (r levels : ℕ) → pending links (xs ++ (r, levels) ∷ []) ≡ tree links levels r ++ pending links xs
+  pending-push : (xs : List (ℕ × ℕ)) (r levels : ℕ) → pending links (xs ++ (r, levels) ∷ []) ≡ tree links levels r ++ pending links xs
   pending-push xs r levels = pending-append xs ((r, levels) ∷ [])
 
   -- links that were pushed, the first on top
-  pub pending-links : (levels : ℕ) (ys : List ℕ) → pending links (reverse (map (λ y. (y, levels)) ys)) ≡ flat_map (tree links levels) ys
+  pending-links : (levels : ℕ) (ys : List ℕ) → pending links (reverse (map (λ y. (y, levels)) ys)) ≡ flat_map (tree links levels) ys
   pending-links levels [] = refl
   pending-links levels (y ∷ ys) =
       ap (pending links) (reverse-append ((y, levels) ∷ []) (map (λ z. (z, levels)) ys))
       ∙ pending-push (reverse (map (λ z. (z, levels)) ys)) y levels ∙ ap (λ zs. tree links levels y ++ zs) (pending-links levels ys)
 
   -- the row on top goes, and its links come
-  pub pending-step : (old new : List (ℕ × ℕ)) (r levels : ℕ)
+  pending-step : (old new : List (ℕ × ℕ)) (r levels : ℕ)
       → new ≡ old ++ cond (eqb levels 0) [] (reverse (map (λ y. (y, levels - 1)) (links r)))
       → pending links (old ++ (r, levels) ∷ []) ≡ r ∷ pending links new
   pending-step old new r zero is =
@@ -71,7 +71,7 @@ module _ (links : ℕ → List ℕ) where
       ∙ ap (λ zs. r ∷ pending links zs) (sym pushed)
 
   -- the links of the row on top stand in what is pending, where it has a level left
-  pub pending-links_in : (old : List (ℕ × ℕ)) (r levels y : ℕ) → 0 < levels → In y (links r) → In y (pending links (old ++ (r, levels) ∷ []))
+  pending-links_in : (old : List (ℕ × ℕ)) (r levels y : ℕ) → 0 < levels → In y (links r) → In y (pending links (old ++ (r, levels) ∷ []))
   pending-links_in old r zero y some_level link = absurd (omega arith)
   pending-links_in old r (suc levels) y some_level link =
       subst (In y) (sym (pending-push old r (suc levels)))
@@ -88,7 +88,7 @@ module _ (links : ℕ → List ℕ) where
     pub popped : before ≡ rest ++ (r, levels) ∷ []
     pub pushed : after ≡ rest ++ cond (eqb levels 0) [] (reverse (map (λ y. (y, levels - 1)) (links r)))
 
-  pub pending-turn : (before after : List (ℕ × ℕ)) (r levels : ℕ) → Turn before after r levels → pending links before ≡ r ∷ pending links after
+  pending-turn : (before after : List (ℕ × ℕ)) (r levels : ℕ) → Turn before after r levels → pending links before ≡ r ∷ pending links after
   pending-turn before after r levels turn = ap (pending links) turn.popped ∙ pending-step turn.rest after r levels turn.pushed
 
   pub pending-smaller : (before after : List (ℕ × ℕ)) (r levels : ℕ) → Turn before after r levels → length (pending links after) < length (pending links before)

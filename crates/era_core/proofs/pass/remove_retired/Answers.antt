@@ -1,4 +1,4 @@
-use Rattle.std.proofs.Common.{◌≡◌, ℕ, suc, ◌+◌, ◌<◌, ◌≤◌, rules, List, [], ◌∷◌, map, flat_map, length, ltb, get_or, sym, ap, ◌∙◌, arith, length-set}
+use Rattle.std.proofs.Common.{◌≡◌, ℕ, suc, ◌+◌, ◌<◌, ◌≤◌, rules, List, [], ◌∷◌, map, flat_map, length, ltb, get_or, ap, ◌∙◌, arith, length-set}
 use Rattle.std.proofs.lemmas.Fn.{filter_same}
 use Rattle.std.proofs.lemmas.List.{get_or_read, length-map}
 use Rattle.era_core.specs.Lists.{without}

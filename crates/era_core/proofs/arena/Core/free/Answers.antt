@@ -4,7 +4,7 @@ use Rattle.std.specs.List.{list_any}
 use Rattle.std.proofs.lemmas.Bool.{and_from}
 use Rattle.std.proofs.lemmas.List.{get_or_read, length-map}
 use Rattle.era_core.specs.Lists.{is_in}
-use Rattle.era_core.specs.Views.{Batch, View, freeing, clears}
+use Rattle.era_core.specs.Views.{Batch, View, clears}
 use Rattle.era_core.specs.Passes.{view_of}
 use Rattle.era_core.specs.Machine.{allows, after}
 use Rattle.era_core.specs.declared.pass.PassView.{PassView}

@@ -1,4 +1,4 @@
-use Rattle.std.proofs.Common.{List, take, sym, ap, subst, ◌∙◌, arith}
+use Rattle.std.proofs.Common.{List, take, sym, ap, subst, ◌∙◌}
 use Rattle.std.proofs.lemmas.List.{take_all}
 use Rattle.era_core.specs.Machine.{Machine, IsSound, start, start_copies, play, copies}
 use Rattle.era_core.specs.declared.event.Event.{Event}

@@ -1,4 +1,4 @@
-use Rattle.std.proofs.Common.{◌≡◌, ℕ, ◌+◌, ◌-◌, ◌^◌, ◌<◌, Option, Some, true, false, Result, Ok, Err, List, length, set, sym, ap, subst, ◌∙◌, arith}
+use Rattle.std.proofs.Common.{◌≡◌, ℕ, ◌-◌, ◌^◌, ◌<◌, Option, Some, true, false, Result, Ok, Err, List, length, set, sym, ap, subst, ◌∙◌, arith}
 use Rattle.std.specs.Prelude.{is_some, IfSome, OnErr}
 use Rattle.std.proofs.lemmas.List.{get_or_read, length-map}
 use Rattle.era_core.specs.Lists.{In, is_in, without}

@@ -1,9 +1,9 @@
-use Rattle.std.proofs.Common.{◌≡◌, ℕ, ◌+◌, ◌*◌, ◌<◌, Bool, ltb, true, false, List, get_or, length, refl, sym, ap, subst, ◌∙◌, arith, lt-ltb}
+use Rattle.std.proofs.Common.{◌≡◌, ℕ, ◌+◌, ◌*◌, ◌<◌, Bool, ltb, true, false, List, length, refl, sym, ap, subst, ◌∙◌, arith, lt-ltb}
 use Rattle.std.specs.Prelude.{◌&&◌, ◌||◌}
 use Rattle.std.proofs.lemmas.Bool.{and_from}
 use Rattle.std.proofs.lemmas.List.{get_or_read, length-map}
 use Rattle.era_core.specs.Lists.{In, is_in}
-use Rattle.era_core.specs.Views.{View, reading}
+use Rattle.era_core.specs.Views.{reading}
 use Rattle.era_core.specs.Passes.{view_of}
 use Rattle.era_core.specs.Machine.{pinned_rows, allows, after}
 use Rattle.era_core.specs.declared.pass.PassView.{PassView}

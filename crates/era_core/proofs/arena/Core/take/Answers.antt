@@ -1,10 +1,9 @@
-use Rattle.std.proofs.Common.{◌≡◌, ℕ, ◌+◌, ◌<◌, eqb, true, false, Result, Ok, Err, List, length, cond, get_or, map, set, refl, sym, ap, subst, ◌∙◌, arith, lt-ltb, eq-eqb, ne_eqb}
+use Rattle.std.proofs.Common.{◌≡◌, ℕ, ◌+◌, ◌<◌, eqb, true, false, Result, Ok, Err, length, cond, get_or, set, sym, ap, subst, ◌∙◌, arith, lt-ltb, eq-eqb, ne_eqb}
 use Rattle.std.specs.Prelude.{OnErr}
 use Rattle.std.proofs.lemmas.List.{get_or_read, length-map}
-use Rattle.era_core.specs.Words.{owner_at}
-use Rattle.era_core.specs.Views.{View, taking}
+use Rattle.era_core.specs.Views.{taking}
 use Rattle.era_core.specs.Passes.{view_of}
-use Rattle.era_core.specs.Machine.{Machine, IsRunning, allows, after}
+use Rattle.era_core.specs.Machine.{IsRunning, allows, after}
 use Rattle.era_core.specs.declared.pass.PassView.{PassView}
 use Rattle.era_core.specs.declared.event.Event.TheVariants.{Take}
 use Rattle.era_core.proofs.Running.{Stepped, stepped, Stored, stored, before, view_again, at_place}

@@ -1,7 +1,6 @@
-use Rattle.std.proofs.Common.{◌≡◌, ◌+◌, ◌*◌, ◌<◌, ltb, true, length, set, refl, sym, ap, ◌∙◌, arith, lt-ltb}
+use Rattle.std.proofs.Common.{◌≡◌, ◌+◌, ◌*◌, ◌<◌, ltb, true, set, refl, sym, ap, ◌∙◌, lt-ltb}
 use Rattle.std.specs.Prelude.{◌&&◌}
 use Rattle.std.proofs.lemmas.Bool.{and_from}
-use Rattle.std.proofs.lemmas.List.{get_or_read, length-map}
 use Rattle.era_core.specs.Lists.{is_in}
 use Rattle.era_core.specs.declared.pass.PassView.{PassView}
 use Rattle.era_core.specs.Passes.{view_of}

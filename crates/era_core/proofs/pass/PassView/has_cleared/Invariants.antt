@@ -2,7 +2,6 @@ use Rattle.std.proofs.Common.{◌≡◌, ◌&&◌, false, take}
 use Rattle.std.specs.List.{list_any}
 use Rattle.era_core.specs.Lists.{is_in}
 use Rattle.era_core.specs.Views.{clears}
-use Rattle.era_core.specs.Passes.{batches_of}
 use Rattle.era_core.proofs.pass.PassView.has_cleared.Given as goal
 
 -- none of the batches so far
