@@ -8,10 +8,8 @@ use Rattle.pls_top.specs.declared.search.Outcome.{Outcome}
 use Rattle.pls_top.specs.declared.reader.BadInstance.{BadInstance as Fault}
 use Rattle.pls_top.specs.declared.reader.BadInstance.TheVariants.{Memory}
 use Rattle.pls_top.specs.declared.status.Status.{Status}
-use Rattle.pls_top.specs.declared.status.Status.TheVariants as Status
 use Rattle.pls_top.specs.declared.status.Status.TheVariants.{Closed, Stopped, BadInstance, ReadFault, WriteFault, TooLong}
 use Rattle.pls_top.specs.declared.report.End.{End}
-use Rattle.pls_top.specs.declared.report.End.TheVariants as End
 use Rattle.pls_top.specs.Words.{is_line}
 use Rattle.pls_top.specs.Reading.{instance}
 use Rattle.pls_top.specs.Report.{report, front_of, counts_of, end_of}

@@ -1,5 +1,5 @@
 -- What the printed front is worth.
-use Rattle.std.proofs.Common.{◌≡◌, ◌<◌, ℕ, ℤ, Bool, true, false, cond, List, [], ◌∷◌, ◌++◌, map, refl, arith}
+use Rattle.std.proofs.Common.{◌≡◌, ℕ, ℤ, Bool, true, false, cond, List, [], ◌∷◌, ◌++◌, map, refl, arith}
 use Rattle.std.specs.Prelude.{All}
 use Rattle.std.specs.List.{filter}
 use Rattle.std.proofs.lemmas.List.Elements.{All-cons}
@@ -10,10 +10,9 @@ use Rattle.pls_archive.proofs.Submitted.{in_order-All}
 use Rattle.pls_archive.proofs.Legal.{IsLegal-sequential_run}
 use Rattle.pls_archive.proofs.LocalOptima.{sequential_run-EndsInLocalOptima}
 use Rattle.pls_archive.proofs.Explored.{sequential_run-IsCutWithoutMoves}
-use Rattle.pls_knapsack.specs.Instance.{Instance, items_of, feasible, value, greedy}
+use Rattle.pls_knapsack.specs.Instance.{Instance, items_of, feasible, greedy}
 use Rattle.pls_knapsack.specs.Neighbours.{point, points, neighbours, flips, exchanges}
 use Rattle.pls_knapsack.proofs.Greedy.{greedy-feasible}
-use Rattle.pls_top.specs.declared.report.End.{End}
 use Rattle.pls_top.specs.declared.report.End.TheVariants.{Closed, Stopped}
 use Rattle.pls_top.specs.Sequential.{point_of, neighbour_points, greedy_run}
 use Rattle.pls_top.specs.Front.{IsPointOf, IsSoundRun}

@@ -1,5 +1,5 @@
 -- Pieces of text separated by spaces, written one after another.
-use Rattle.std.proofs.Common.{◌≡◌, ◌<◌, ◌≤◌, ℕ, ◌+◌, Bool, List, [], ◌∷◌, ◌++◌, take, length, get_or, cond, true, false, refl, sym, ap, ◌∙◌, append_assoc, append-nil, arith, map, zero-add}
+use Rattle.std.proofs.Common.{◌≡◌, ℕ, ◌+◌, Bool, List, [], ◌∷◌, ◌++◌, cond, true, false, refl, sym, ap, ◌∙◌, append_assoc, append-nil, map, zero-add}
 use Rattle.std.proofs.lemmas.Bool.{false≢true}
 use Rattle.std.proofs.lemmas.List.Elements.{filter-append}
 use Rattle.std.proofs.lemmas.List.FromFn.{map-range_with_len_more}

@@ -1,10 +1,8 @@
 -- The items in ascending order, and the run from what a greedy fill takes along them.
-use Rattle.std.proofs.Common.{◌≡◌, ◌<◌, ℕ, ◌+◌, List, ◌++◌, ◌∷◌, [], length, get_or, ap, sym, ◌∙◌, subst, arith, zero-add, Result}
-use Rattle.std.specs.Prelude.{IfOk}
+use Rattle.std.proofs.Common.{◌≡◌, ◌<◌, ℕ, ◌+◌, List, ◌++◌, ◌∷◌, [], length, get_or, ap, sym, ◌∙◌, subst, arith, zero-add}
 use Rattle.std.specs.List.{range_with_len}
 use Rattle.std.proofs.lemmas.List.FromFn.{length-range_with_len, get_or-range_with_len}
-use Rattle.pls_vectors.specs.Solution.{Solution}
-use Rattle.pls_knapsack.specs.Instance.{Instance, IsOrderOf, greedy, items_of}
+use Rattle.pls_knapsack.specs.Instance.{Instance, IsOrderOf}
 use Rattle.pls_top.proofs.Joined.{range_with_len-more}
 
 pub ascending-push : (items items' : List ℕ) (n : ℕ) → items ≡ range_with_len 0 n → items' ≡ items ++ n ∷ [] → items' ≡ range_with_len 0 (n + 1)

@@ -1,11 +1,10 @@
 -- The definitions on small texts, computed.
-use Rattle.std.specs.Prelude.{◌≡◌, ℕ, ◌-◌, pos, true, List, [], ◌∷◌, ◌++◌, take, length, Result, Ok, Err, codes, replicate}
+use Rattle.std.specs.Prelude.{◌≡◌, ℕ, true, List, [], ◌∷◌, ◌++◌, take, length, Ok, Err, codes, replicate}
 use Rattle.std.specs.Fmt.{digits}
 use Rattle.std.proofs.Common.{refl}
 use Rattle.pls_vectors.specs.Solution.{no_items, with_item}
 use Rattle.pls_knapsack.specs.Instance.{Instance, value, fits, no_other_bit, feasible, filled, greedy}
 use Rattle.pls_knapsack.specs.Neighbours.{points, neighbours}
-use Rattle.pls_top.specs.declared.reader.BadInstance.{BadInstance}
 use Rattle.pls_top.specs.declared.reader.BadInstance.TheVariants.{Head, Short, Word, Range, Extra, Shape}
 use Rattle.pls_top.specs.Reading.{instance}
 use Rattle.pls_top.specs.Sequential.{run_from}

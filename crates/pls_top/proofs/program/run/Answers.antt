@@ -1,5 +1,5 @@
-use Rattle.std.proofs.Common.{◌≡◌, ◌≤◌, ◌<◌, ℕ, List, length, true, rules, subst, sym, ◌∙◌, ap, Err}
-use Rattle.pls_top.specs.Answer.{TooLongExactly, BadInstanceExactly, WritesDueText, most_bytes, search_moves}
+use Rattle.std.proofs.Common.{◌≡◌, ◌≤◌, ℕ, List, length, true, rules, subst, sym, ◌∙◌, ap, Err}
+use Rattle.pls_top.specs.Answer.{BadInstanceExactly, most_bytes, search_moves}
 use Rattle.pls_top.specs.Words.{is_line}
 use Rattle.pls_top.proofs.Endings.{usage_exactly, too_long_exactly, bad_instance_exactly, no_read_fault, write_fault_rose, fault_line_written, due_text_written_of, too_long_written, too_long_due}
 use Rattle.pls_top.proofs.Fronts.{greedy_run-IsSoundRun}

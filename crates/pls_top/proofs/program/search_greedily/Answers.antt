@@ -1,8 +1,8 @@
-use Rattle.std.proofs.Common.{◌≡◌, ◌∙◌, ap, subst, List, ℕ}
+use Rattle.std.proofs.Common.{◌∙◌, ap, subst}
 use Rattle.std.specs.Prelude.{IfOk}
 use Rattle.std.specs.List.{range_with_len}
 use Rattle.pls_vectors.specs.Solution.{Solution}
-use Rattle.pls_knapsack.specs.Instance.{greedy, items_of}
+use Rattle.pls_knapsack.specs.Instance.{greedy}
 use Rattle.pls_top.specs.Answer.{search_moves}
 use Rattle.pls_top.specs.Search.{Shows}
 use Rattle.pls_top.specs.Sequential.{run_from}

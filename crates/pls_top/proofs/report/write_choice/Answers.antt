@@ -1,7 +1,4 @@
-use Rattle.std.proofs.Common.{◌≡◌, ℕ, string_bytes, sym, ◌∙◌, ap, arith, rules, true, false}
-use Rattle.std.specs.List.{filter, range_with_len}
-use Rattle.std.specs.Fmt.{decimal}
-use Rattle.pls_vectors.specs.Solution.{chosen}
+use Rattle.std.proofs.Common.{string_bytes, sym, ◌∙◌, ap, arith}
 use Rattle.pls_top.proofs.Joined.{item_written, item_left, choice_written, no_choice_written}
 use Rattle.pls_top.proofs.report.write_choice.Goals as goal
 use Rattle.pls_top.proofs.report.write_choice.Goals.{then-bit+in_ok-write_item, else-bit}

@@ -1,4 +1,4 @@
-use Rattle.std.proofs.Common.{◌≡◌, ◌++◌, string_bytes}
+use Rattle.std.proofs.Common.{string_bytes}
 use Rattle.std.specs.List.{filter, range_with_len}
 use Rattle.std.specs.Fmt.{decimal}
 use Rattle.pls_vectors.specs.Solution.{chosen}

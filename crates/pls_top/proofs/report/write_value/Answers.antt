@@ -1,4 +1,4 @@
-use Rattle.std.proofs.Common.{◌≡◌, ◌<◌, length, take, pos, arith, string_bytes}
+use Rattle.std.proofs.Common.{◌<◌, length, take, pos, arith, string_bytes}
 use Rattle.std.proofs.Common.{w64, rules}
 use mir.Val.{SFits}
 use Rattle.std.proofs.lemmas.Int.{to_z-of_z}

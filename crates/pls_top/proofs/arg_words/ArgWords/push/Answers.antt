@@ -1,4 +1,4 @@
-use Rattle.std.proofs.Common.{◌≡◌, ◌∙◌, ap, ◌++◌, List, ℕ, refl}
+use Rattle.std.proofs.Common.{refl}
 use Rattle.pls_top.proofs.Pieces.{AreEnds-pushed, pieces-pushed}
 use Rattle.pls_top.proofs.arg_words.ArgWords.push.Goals as goal
 
