@@ -15,7 +15,7 @@ use Rattle.pls_top.specs.Reading.{instance}
 use Rattle.pls_top.specs.Report.{report, front_of, counts_of, end_of}
 use Rattle.pls_top.specs.Search.{Shows}
 use Rattle.pls_top.specs.Sequential.{greedy_run}
-use Rattle.pls_top.specs.Answer.{Finishes, FinishesIfMemory, status_at, status_of, text_of, search_moves, instance_line, most_bytes, due_text, too_long_line, code_of, Written, WritesFaultLine, WritesDueText, UsageExactly, TooLongExactly, BadInstanceExactly}
+use Rattle.pls_top.specs.Answer.{Finishes, FinishesIfMemory, status_at, status_of, text_of, search_moves, instance_line, most_bytes, due_text, too_long_line, IsComplete, IsUndisturbed, code_of, Written, WritesFaultLine, WritesDueText, UsageExactly, TooLongExactly, BadInstanceExactly}
 
 -- the text and the status of an outcome that shows the greedy run
 shown_text :
@@ -216,3 +216,17 @@ too_long_due P words bytes is long faults faults' written written' result ends b
         subst (λ (s : Status). WritesDueText P too_long_line s before written') (sym all.0) (all.1 before told)
     line_written P faults faults' written written' result (inr part) before told =
         subst (λ (s : Status). WritesDueText P too_long_line s before written') (sym part.0) (inl (part.2 before told))
+
+-- without a fault, an instance is searched
+pub complete_answer :
+    (words : List (List ℕ)) (text bytes : List ℕ) (faulty : Type 0) → text ≡ bytes → IsUndisturbed words bytes faulty
+    → (faults faults' : ℕ) (written written' : Option (List ℕ)) (result : Status) → (Rose faults faults' → faulty)
+    → FinishesIfMemory (status_of (instance text)) (text_of (instance text)) faults faults' written written' result → IsComplete result
+complete_answer words text bytes faulty same undisturbed faults faults' written written' result rose (inl none) =
+    subst IsComplete (sym none.0) tt
+complete_answer words text bytes faulty same undisturbed faults faults' written written' result rose (inr (inl all)) =
+    subst IsComplete (sym all.0)
+    (at_status (λ r s. IsOk r → IsComplete s) (λ k is. tt) (λ k is. tt) (λ f is. cc) (instance text)
+    (subst (λ (b : List ℕ). IsOk (instance b)) (sym same) undisturbed.is_instance))
+complete_answer words text bytes faulty same undisturbed faults faults' written written' result rose (inr (inr part)) =
+    absurd (undisturbed.no_fault (rose part.1))

@@ -153,3 +153,18 @@ Finishes status text faults faults' written written' result =
 abbrev pub FinishesIfMemory : Status → List ℕ → ℕ → ℕ → Option (List ℕ) → Option (List ℕ) → Status → Type 0
 FinishesIfMemory status text faults faults' written written' result =
     ((result ≡ Memory) × (written' ≡ written)) ⊎ Finishes status text faults faults' written written' result
+
+-- the text of a search was due and written, unless memory ran out
+abbrev pub IsComplete : Status → Type 0
+IsComplete Closed = ⊤
+IsComplete Stopped = ⊤
+IsComplete Memory = ⊤
+IsComplete status = ⊥
+
+-- Words that are a command line, a source that has an instance of at most 16,777,216 bytes left, and no
+-- fault: `faulty` is that a count of faults rose.
+pub record IsUndisturbed (words : List (List ℕ)) (bytes : List ℕ) (faulty : Type 0) : Type 0 where
+  pub is_line : is_line words ≡ true
+  pub short : length bytes ≤ most_bytes
+  pub is_instance : IsOk (instance bytes)
+  pub no_fault : faulty → ⊥

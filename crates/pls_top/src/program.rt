@@ -1,10 +1,10 @@
 //! From the words and bytes that come in to the bytes that go out.
 
-ghost use Rattle.std.specs.Prelude.{◌≡◌, ◌≤◌, ◌<◌, ◌^◌, ℕ, List, Some, true, IfOk, length};
+ghost use Rattle.std.specs.Prelude.{◌≡◌, ◌⊎◌, ◌≤◌, ◌<◌, ◌^◌, ℕ, List, Some, true, IfOk, length};
 ghost use Rattle.std.specs.List.{range_with_len};
 ghost use Rattle.pls_io.specs.Streams.{Rose};
 ghost use Rattle.pls_knapsack.specs.Instance.{Instance};
-ghost use Rattle.pls_top.specs.Answer.{UsageExactly, TooLongExactly, BadInstanceExactly, WritesFaultLine, UsageInPart, WritesDueText, AnswersDueStatus, due_text, due_status, text_of, status_of, search_moves, Finishes, FinishesIfMemory};
+ghost use Rattle.pls_top.specs.Answer.{UsageExactly, TooLongExactly, BadInstanceExactly, WritesFaultLine, UsageInPart, WritesDueText, AnswersDueStatus, IsComplete, IsUndisturbed, due_text, due_status, text_of, status_of, search_moves, Finishes, FinishesIfMemory};
 ghost use Rattle.pls_top.specs.Front.{IsSoundRun};
 ghost use Rattle.pls_top.specs.Reading.{instance};
 ghost use Rattle.pls_top.specs.Search.{Shows};
@@ -46,6 +46,11 @@ pub fn run<S: Source, K: Sink>(
     ensures too_long { (bytes : List ℕ) → S.left source.old ≡ Some bytes → TooLongExactly bytes result }
     ensures bad_instance { (bytes : List ℕ) → S.left source.old ≡ Some bytes → BadInstanceExactly bytes result }
     ensures status { (bytes : List ℕ) → S.left source.old ≡ Some bytes → AnswersDueStatus (due_status words.now bytes) result }
+
+    // It does not give up by itself.
+    ensures complete { (bytes : List ℕ) → S.left source.old ≡ Some bytes
+        → IsUndisturbed words.now bytes (Rose (S.faults source.old) (S.faults source.new) ⊎ Rose (K.faults sink.old) (K.faults sink.new))
+        → IsComplete result }
 
     // What the run is worth whose text is due: see `status` for when it is closed.
     ensures sound { (k : Instance) → IsSoundRun k search_moves (greedy_run k search_moves) }

@@ -1,7 +1,7 @@
-use Rattle.std.proofs.Common.{◌≡◌, ◌≤◌, ℕ, List, length, true, rules, subst, sym, ◌∙◌, ap, Err}
+use Rattle.std.proofs.Common.{inr, ◌≡◌, ◌≤◌, ℕ, List, length, true, rules, subst, sym, ◌∙◌, ap, Err}
 use Rattle.pls_top.specs.Answer.{BadInstanceExactly, most_bytes, search_moves}
 use Rattle.pls_top.specs.Words.{is_line}
-use Rattle.pls_top.proofs.Endings.{usage_exactly, too_long_exactly, bad_instance_exactly, no_read_fault, write_fault_rose, fault_line_written, due_text_written_of, too_long_written, too_long_due}
+use Rattle.pls_top.proofs.Endings.{usage_exactly, too_long_exactly, bad_instance_exactly, no_read_fault, write_fault_rose, fault_line_written, due_text_written_of, too_long_written, too_long_due, complete_answer}
 use Rattle.pls_top.proofs.Fronts.{greedy_run-IsSoundRun}
 use Rattle.pls_top.proofs.program.run.Goals as goal
 
@@ -61,3 +61,9 @@ returns-in-Err-TooLong-clause-sound g c = λ k. greedy_run-IsSoundRun k search_m
 
 pub returns-in-Err-Memory-clause-sound : goal.returns-in-Err-Memory-clause-sound
 returns-in-Err-Memory-clause-sound g c = λ k. greedy_run-IsSoundRun k search_moves
+
+pub returns-in-Ok-clause-complete : goal.returns-in-Ok-clause-complete
+returns-in-Ok-clause-complete g c =
+    λ bytes told undisturbed.
+    complete_answer c.args.words.now c.deref.result.now bytes _ (c.deref.ensures.value ∙ c.in-Ok.ensures.whole.whole bytes told) undisturbed
+    _ _ _ _ _ (λ rose. inr rose) c.answer.ensures.finishes
