@@ -1,4 +1,4 @@
-use Rattle.std.specs.Prelude.{◌≡◌, ℕ, ◌+◌, ◌-◌, ◌<◌, ◌≤◌, zero, Bool, true, false, not, List, [], ◌∷◌, ◌++◌, length, All, if◌then◌else◌}
+use Rattle.std.specs.Prelude.{vec_len, ◌≡◌, ℕ, ◌+◌, ◌-◌, ◌<◌, ◌≤◌, zero, Bool, true, false, not, List, [], ◌∷◌, ◌++◌, length, All, if◌then◌else◌}
 use Rattle.pls_vectors.specs.Archive.{with_submission}
 use Rattle.pls_archive.specs.declared.point.Point.{Point}
 use Rattle.pls_archive.specs.declared.call.Entry.{Entry}
@@ -15,6 +15,13 @@ use Rattle.pls_top.specs.declared.search.Outcome.{Outcome}
 -- every task is a feasible choice
 pub record HasFeasible (k : Instance) (state : SearchState) : Type 0 where
   pub tasks : All (λ p. feasible k p.sol ≡ true) state.tasks.items
+
+-- exploring a task keeps the tasks feasible, gains no more tasks than it spends moves, and counts one exploration at most
+pub record StaysWithin (k : Instance) (before after : SearchState) : Type 0 where
+  pub tasks : HasFeasible k after
+  pub bound : vec_len after.tasks + after.moves_left ≤ vec_len before.tasks + before.moves_left
+  pub moves : after.moves_left ≤ before.moves_left
+  pub explored : after.explored ≤ before.explored + 1
 
 -- a point was submitted: it is a member and a task now, unless a member weakly dominated it
 pub record Submits (p : Point) (before after : SearchState) : Type 0 where

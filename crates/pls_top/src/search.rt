@@ -9,7 +9,7 @@ ghost use Rattle.pls_vectors.specs.Dominance.{weakly_dominates};
 ghost use Rattle.pls_knapsack.specs.Instance.{feasible};
 ghost use Rattle.pls_archive.specs.Reply.{some_weakly_dominates, has_value};
 ghost use Rattle.pls_top.specs.Sequential.{run_from};
-ghost use Rattle.pls_top.specs.Search.{HasFeasible, Submits, Explores, Visits, ExploresAll, Reports, Shows};
+ghost use Rattle.pls_top.specs.Search.{HasFeasible, StaysWithin, Submits, Explores, Visits, ExploresAll, Reports, Shows};
 
 use crate::report::{Counts, End};
 use pls_archive::{Point, PointList};
@@ -86,11 +86,8 @@ impl SearchState {
         requires tasks { HasFeasible instance.now self.old }
         requires task { feasible instance.now task.now.sol ≡ true }
         requires explored { self.old.explored < 2 ^ 64 - 1 }
-        ensures tasks { OnOk result (HasFeasible instance.now self.new) }
         ensures runs { IfOk result (Visits instance.now task.now self.old self.new) }
-        ensures bound { OnOk result (vec_len self.new.tasks + self.new.moves_left ≤ vec_len self.old.tasks + self.old.moves_left) }
-        ensures moves { OnOk result (self.new.moves_left ≤ self.old.moves_left) }
-        ensures explored { OnOk result (self.new.explored ≤ self.old.explored + 1) }
+        ensures within { OnOk result (StaysWithin instance.now self.old self.new) }
     {
         if !is_member(&self.archive, &task.value) {
             return Ok(true);
@@ -103,11 +100,8 @@ impl SearchState {
         requires tasks { HasFeasible instance.now self.old }
         requires task { feasible instance.now task.now.sol ≡ true }
         requires explored { self.old.explored < 2 ^ 64 - 1 }
-        ensures tasks { OnOk result (HasFeasible instance.now self.new) }
         ensures runs { IfOk result (Explores instance.now task.now self.old self.new) }
-        ensures bound { OnOk result (vec_len self.new.tasks + self.new.moves_left ≤ vec_len self.old.tasks + self.old.moves_left) }
-        ensures moves { OnOk result (self.new.moves_left ≤ self.old.moves_left) }
-        ensures explored { OnOk result (self.new.explored ≤ self.old.explored + 1) }
+        ensures within { OnOk result (StaysWithin instance.now self.old self.new) }
     {
         let mut walk = instance.walk(&task.sol);
         while let Some(neighbour) = instance.next(&mut walk) {

@@ -19,13 +19,13 @@ loop-next-preserved c =
     let task = c.index.result.now in
     let visits = subst (λ (b : Bool). Visits c.args.instance.now task now after b) c.if-not-branch.false c.in_ok-visit.ensures.runs in
     record {
-      tasks = c.in_ok-visit.ensures.tasks;
+      tasks = c.in_ok-visit.ensures.within.tasks;
       goes_on =
           AllGoOn-more c.args.instance.now c.args.self.now now after c.loop-next.next task
           c.loop-next.invariant.goes_on c.index.ensures (omega arith) (omega arith) visits;
-      bound = omega (arith, c.in_ok-visit.ensures.bound);
-      moves = omega (arith, c.in_ok-visit.ensures.moves);
-      explored = omega (arith, c.in_ok-visit.ensures.explored);
+      bound = omega (arith, c.in_ok-visit.ensures.within.bound);
+      moves = omega (arith, c.in_ok-visit.ensures.within.moves);
+      explored = omega (arith, c.in_ok-visit.ensures.within.explored);
     }
 
 pub returns-then-not-branch-clause-runs : goal.returns-then-not-branch-clause-runs
