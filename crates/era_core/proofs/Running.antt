@@ -1,6 +1,6 @@
 -- What the running machine keeps, it keeps at every event.
-use Rattle.std.proofs.Common.{◌≡◌, ℕ, ◌+◌, ◌<◌, ◌≤◌, ⊎_elim, Bool, true, false, cond, eqb, ltb, Option, Some, None, List, [], ◌∷◌, map, get_or, zero, suc, length, set, refl, sym, ap, subst, ◌∙◌, arith, length-set}
-use Rattle.std.specs.Prelude.{◌&&◌, ◌||◌, slice_get, option_and_then}
+use Rattle.std.proofs.Common.{◌≡◌, ℕ, ◌+◌, ◌<◌, ◌≤◌, ⊎_elim, Bool, true, false, cond, eqb, ltb, Option, Some, None, Result, Ok, Err, List, [], ◌∷◌, map, get_or, zero, suc, length, set, refl, sym, ap, subst, ◌∙◌, arith, length-set}
+use Rattle.std.specs.Prelude.{◌&&◌, ◌||◌, slice_get, option_and_then, OnErr}
 use Rattle.std.specs.List.{list_any}
 use Rattle.std.proofs.Math.Logic.{∥∥₁_map, ∥∥₁_elim}
 use Rattle.std.proofs.Math.Bridge.{le_prop}
@@ -250,3 +250,8 @@ module _ {A : Type 0} (f : A → View) (passes rows : ℕ) (ws : List ℕ) (xs :
 pub none_of : (a b : Bool) → b ≡ false → (a && b) ≡ false
 none_of true b e = e
 none_of false b e = refl
+
+-- what holds whatever the result is holds where it is an error
+pub on_err : {A E : Type 0} {P : Type 0} (r : Result A E) → P → OnErr r P
+on_err (Ok x) p = tt
+on_err (Err e) p = p

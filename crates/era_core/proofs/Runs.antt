@@ -268,7 +268,7 @@ module _ (es : List Event) (i : ℕ) (d : Event) (m core : Machine) (inside : i 
         ∙ ap (λ (n : ℕ). Some n) before
 
 -- no event changes how many rows and passes there are
-after_sizes : (m : Machine) (e : Event) → ((after m e).rows ≡ m.rows) × ((after m e).passes ≡ m.passes)
+pub after_sizes : (m : Machine) (e : Event) → ((after m e).rows ≡ m.rows) × ((after m e).passes ≡ m.passes)
 after_sizes m e = by_test (allows m e)
   where
     by_view : (o : Option View) → ((after_at m e o).rows ≡ m.rows) × ((after_at m e o).passes ≡ m.passes)

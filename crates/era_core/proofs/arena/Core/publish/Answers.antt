@@ -1,5 +1,5 @@
-use Rattle.std.proofs.Common.{◌≡◌, ℕ, ◌-◌, ◌^◌, ◌<◌, Option, Some, true, false, Result, Ok, Err, List, length, set, sym, ap, subst, ◌∙◌, arith}
-use Rattle.std.specs.Prelude.{is_some, IfSome, OnErr}
+use Rattle.std.proofs.Common.{◌≡◌, ℕ, ◌-◌, ◌^◌, ◌<◌, Option, Some, true, false, List, length, set, sym, ap, subst, ◌∙◌, arith}
+use Rattle.std.specs.Prelude.{is_some, IfSome}
 use Rattle.std.proofs.lemmas.List.{get_or_read, length-map}
 use Rattle.era_core.specs.Lists.{In, is_in, without}
 use Rattle.era_core.specs.Words.{links, tree_at}
@@ -9,7 +9,7 @@ use Rattle.era_core.specs.Machine.{IsRunning, pinned_rows, allows, after}
 use Rattle.era_core.specs.declared.pass.PassView.{PassView}
 use Rattle.era_core.specs.declared.event.Event.TheVariants.{Publish}
 use Rattle.era_core.proofs.TreeFacts.{tree_root}
-use Rattle.era_core.proofs.Running.{Stepped, Stored, before, view_again, pinned_inside, fresh_inside}
+use Rattle.era_core.proofs.Running.{on_err, Stepped, Stored, before, view_again, pinned_inside, fresh_inside}
 use Rattle.era_core.proofs.Publication.{clear_marks, fits_read, fits_by, publish_refused, publish_late, publish_done}
 use Rattle.era_core.proofs.arena.Core.publish.Goals.{In_default-2, After-drop-rows-then-index-root_word, After-from_residual-in_err-publish, After-self-3-1}
 use Rattle.era_core.proofs.arena.Core.publish.Goals as goal
@@ -73,10 +73,6 @@ step c =
     (c.in_ok-publish.ensures ∙ ap (λ (x : PassView). replacing c.in-Some.version rows.fresh.items rows.gone.items (view_of x)) same
     ∙ ap (λ l. replacing c.in-Some.version l rows.gone.items (view_of p)) left ∙ ap (λ l. replacing c.in-Some.version (without (new it.words.items) p.fresh.items) l (view_of p)) gone) in
     subst (λ w. Stepped view_of it.passes it.rows it.words.items it.views.items (Publish c.args.pass c.args.root) true (set it.words.items 0 w) c.publish.new.self) (sym c.root_word-2.ensures) s
-
-on_err : {A E : Type 0} {P : Type 0} (r : Result A E) → P → OnErr r P
-on_err (Ok x) p = tt
-on_err (Err e) p = p
 
 pub replaced-requires-clause-fresh_in_range : goal.replaced-requires-clause-fresh_in_range
 replaced-requires-clause-fresh_in_range c = λ x here.

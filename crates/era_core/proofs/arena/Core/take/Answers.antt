@@ -1,12 +1,11 @@
-use Rattle.std.proofs.Common.{◌≡◌, ℕ, ◌+◌, ◌<◌, eqb, true, false, Result, Ok, Err, length, cond, get_or, set, sym, ap, subst, ◌∙◌, arith, lt-ltb, eq-eqb, ne_eqb}
-use Rattle.std.specs.Prelude.{OnErr}
+use Rattle.std.proofs.Common.{◌≡◌, ℕ, ◌+◌, ◌<◌, eqb, true, false, length, cond, get_or, set, sym, ap, subst, ◌∙◌, arith, lt-ltb, eq-eqb, ne_eqb}
 use Rattle.std.proofs.lemmas.List.{get_or_read, length-map}
 use Rattle.era_core.specs.Views.{taking}
 use Rattle.era_core.specs.Passes.{view_of}
 use Rattle.era_core.specs.Machine.{IsRunning, allows, after}
 use Rattle.era_core.specs.declared.pass.PassView.{PassView}
 use Rattle.era_core.specs.declared.event.Event.TheVariants.{Take}
-use Rattle.era_core.proofs.Running.{Stepped, stepped, Stored, stored, before, view_again, at_place}
+use Rattle.era_core.proofs.Running.{on_err, Stepped, stepped, Stored, stored, before, view_again, at_place}
 use Rattle.era_core.proofs.arena.Core.take.Goals as goal
 use Rattle.era_core.proofs.arena.Core.take.Goals.{Then-index-ne0, After-from_residual, After-self-2-1}
 
@@ -26,10 +25,6 @@ owned c =
     (sym (lt-ltb c.args.row it.rows row))
     (sym (ap (λ b. cond b (set it.words.items at (c.args.pass + 1)) it.words.items) taken))
     (sym (ap (λ b. cond b (taking c.args.row (view_of v.0)) (view_of v.0)) taken))
-
-on_err : {A E : Type 0} {P : Type 0} (r : Result A E) → P → OnErr r P
-on_err (Ok x) p = tt
-on_err (Err e) p = p
 
 -- memory ran out
 failed : (c : After-from_residual) → before view_of c.self.inside.passes c.self.inside.rows c.self.inside.words.items (set c.self.inside.views.items c.args.pass c.take.new.self) ≡ before view_of c.self.inside.passes c.self.inside.rows c.self.inside.words.items c.self.inside.views.items
