@@ -1,4 +1,4 @@
-use Rattle.std.proofs.Common.{◌≡◌, ℕ, ◌+◌, ◌<◌, ◌≤◌, ℤ, Bool, true, false, cond, not, List, [], ◌∷◌, ◌++◌, Option, Some, None, is_some, IsNone, IfNone, ◌↔◌, option_to_list, map, drop, refl, ap, sym, ◌∙◌}
+use Rattle.std.proofs.Common.{◌≡◌, ℕ, ◌+◌, ◌<◌, ◌≤◌, ℤ, Bool, true, false, cond, not, List, [], ◌∷◌, ◌++◌, Option, Some, None, is_some, IfNone, option_to_list, map, drop, refl, ap, sym, ◌∙◌}
 use Rattle.std.specs.List.{range_with_len, filter, flat_map}
 use Rattle.std.proofs.lemmas.List.{append_assoc}
 use Rattle.pls_vectors.specs.Solution.{Solution, chosen, with_item}
@@ -191,10 +191,3 @@ left-nothing k flips exchanges no_flips no_exchanges =
 pub if_none-map : {X P Q : Type 0} (o : Option X) → (P → Q) → IfNone o P → IfNone o Q
 if_none-map None f p = f p
 if_none-map (Some x) f p = p
-
--- a step ends exactly where nothing was left
-pub ends :
-    {X : Type 0} (xs ys : List X) (given : Option X) → xs ≡ option_to_list given ++ ys → IfNone given (ys ≡ [])
-    → IsNone given ↔ (xs ≡ [])
-ends xs ys None step none = (λ _. step ∙ none, λ _. refl)
-ends xs ys (Some x) step none = (λ h. cc, λ e. cc)

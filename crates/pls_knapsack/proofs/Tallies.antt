@@ -10,6 +10,7 @@ use Rattle.pls_vectors.specs.Solution.{Solution, chosen, with_bit, with_item}
 use Rattle.pls_vectors.proofs.Solution.{chosen-with_item_same, chosen-with_item_other}
 use Rattle.pls_knapsack.specs.declared.knapsack.tally.Tally.{Tally}
 use Rattle.pls_knapsack.specs.Instance.{Instance, IsWithinLimits, profit, weight, sum_of_chosen, load, value, fits, no_other_bit, feasible}
+use Rattle.pls_knapsack.specs.Neighbours.{point}
 use Rattle.pls_knapsack.specs.Walk.{IsTally, point_if_feasible}
 use Rattle.pls_knapsack.proofs.Ranges.{list_all-range, list_all-range_at, list_all-range_same, sum_by-range_suc, sum_by-range_le, map-range_same}
 use Rattle.pls_knapsack.proofs.Sums.{sum_of-put}
@@ -235,17 +236,21 @@ pub value-from_sums :
 unfolding value
 value-from_sums k s sums is = map-range_same _ _ k.objectives (λ row at. ap (λ x. pos x) (is row at))
 
--- a feasible choice as a point
-pub point_of-feasible : (k : Instance) (q : Solution) → feasible k q ≡ true → point_if_feasible k q ≡ Some (value k q, q)
-point_of-feasible k q holds = ap (λ b. if b then Some (value k q, q) else None) holds
+-- a choice as a point, where it is feasible, and where it is not
+pub point_if-feasible : (k : Instance) (q : Solution) → feasible k q ≡ true → Some (point k q) ≡ point_if_feasible k q
+point_if-feasible k q holds = ap (λ b. if b then Some (point k q) else None) (sym holds)
 
--- a point whose value was made from known sums
-pub point-from_sums :
-    (k : Instance) (q made : Solution) (v : List ℤ) (sums : List ℕ) → made ≡ q → feasible k q ≡ true
+pub point_if-infeasible : (k : Instance) (q : Solution) → feasible k q ≡ false → None ≡ point_if_feasible k q
+point_if-infeasible k q fails = ap (λ b. if b then Some (point k q) else None) (sym fails)
+
+-- the value of a choice that was made, from known sums
+pub value-made :
+    (k : Instance) (q made : Solution) (v : List ℤ) (sums : List ℕ) → made ≡ q
     → v ≡ map (λ row. pos (slice_index sums row)) (range_with_len 0 k.objectives)
     → ((row : ℕ) → row < k.objectives → slice_index sums row ≡ sum_of_chosen k.items q (profit k row))
-    → Some (v, made) ≡ point_if_feasible k q
-point-from_sums k q made v sums same holds parts is =
-    let exact : v ≡ value k q = parts ∙ value-from_sums k q sums is in
-    let point : Some (v, made) ≡ Some (value k q, q) = cc in
-    point ∙ sym (point_of-feasible k q holds)
+    → v ≡ value k made
+value-made k q made v sums same parts is = parts ∙ (value-from_sums k q sums is ∙ ap (λ s. value k s) (sym same))
+
+-- an item of the instance is one of a tally's choice
+pub tally-item : (k : Instance) (t : Tally) (i : ℕ) → IsTally k t → i < k.items → i < t.sol.len
+tally-item k t i tally below = let was = feasible-parts k t.sol tally.feasible in omega arith

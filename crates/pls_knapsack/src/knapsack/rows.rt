@@ -4,7 +4,8 @@ ghost use Rattle.pls_knapsack.specs.Instance.{sum_of_chosen};
 
 use pls_vectors::{Sol, Vector};
 
-// A table has `rows` rows of `items` numbers, one after another.
+// A table has `rows` rows of `items` numbers, one after another. Sums are changed in eight turns, and
+// those past the rows do nothing: with a fixed number of turns a few sums stay in registers.
 
 /// The amount of an item in a row of a table.
 pub fn amount(table: &[u32], items: u16, row: u8, item: u16) -> u32
@@ -52,6 +53,7 @@ pub fn sum_rows(sums: &mut [u32], table: &[u32], items: u16, rows: u8, sol: &Sol
 /// Adds an item's amount in each row to the sum of that row.
 pub fn add_item(sums: &mut [u32], table: &[u32], items: u16, rows: u8, item: u16)
     requires room { rows ≤ length sums.old }
+    requires few { rows ≤ 8 }
     requires rows_in { rows * items ≤ length table.now }
     requires item_in { item < items }
     requires fits { (row : ℕ) → row < rows
@@ -59,14 +61,17 @@ pub fn add_item(sums: &mut [u32], table: &[u32], items: u16, rows: u8, item: u16
     ensures { (row : ℕ) → row < rows
         → slice_index sums.new row ≡ slice_index sums.old row + slice_index table.now (row * items + item) }
 {
-    for row in 0..rows {
-        sums[row as usize] += amount(table, items, row, item);
+    for row in 0..8 {
+        if row < rows {
+            sums[row as usize] += amount(table, items, row, item);
+        }
     }
 }
 
 /// Takes an item's amount in each row from the sum of that row.
 pub fn take_item(sums: &mut [u32], table: &[u32], items: u16, rows: u8, item: u16)
     requires room { rows ≤ length sums.old }
+    requires few { rows ≤ 8 }
     requires rows_in { rows * items ≤ length table.now }
     requires item_in { item < items }
     requires within { (row : ℕ) → row < rows
@@ -74,8 +79,10 @@ pub fn take_item(sums: &mut [u32], table: &[u32], items: u16, rows: u8, item: u1
     ensures { (row : ℕ) → row < rows
         → slice_index sums.new row + slice_index table.now (row * items + item) ≡ slice_index sums.old row }
 {
-    for row in 0..rows {
-        sums[row as usize] -= amount(table, items, row, item);
+    for row in 0..8 {
+        if row < rows {
+            sums[row as usize] -= amount(table, items, row, item);
+        }
     }
 }
 
@@ -111,9 +118,16 @@ pub fn vector_of(sums: &[u32; 4], rows: u8) -> Vector
     requires few { rows ≤ 4 }
     ensures { result ≡ map (λ row. pos (slice_index sums.now row)) (range_with_len 0 rows) }
 {
-    let mut parts = [0; 4];
-    for row in 0..rows as usize {
-        parts[row] = sums[row] as i64;
+    let parts = [
+        sums[0] as i64,
+        sums[1] as i64,
+        sums[2] as i64,
+        sums[3] as i64,
+    ];
+    // Each length is a constant, which spares calls that clear and copy memory.
+    match rows {
+        2 => Vector::new(&parts[..2]).unwrap(),
+        3 => Vector::new(&parts[..3]).unwrap(),
+        _ => Vector::new(&parts).unwrap(),
     }
-    Vector::new(&parts[..rows as usize]).unwrap()
 }

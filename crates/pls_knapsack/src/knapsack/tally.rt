@@ -1,9 +1,10 @@
-ghost use Rattle.std.specs.Prelude.{◌≡◌, ◌≢◌, ℕ, ◌<◌, ◌≤◌, true, false};
+ghost use Rattle.std.specs.Prelude.{◌≡◌, ◌≢◌, ℕ, ◌<◌, ◌≤◌, slice_index, true, false};
 ghost use Rattle.pls_vectors.specs.Solution.{chosen, with_item};
-ghost use Rattle.pls_knapsack.specs.Instance.{feasible, value};
+ghost use Rattle.pls_knapsack.specs.Instance.{feasible, profit, sum_chosen};
+ghost use Rattle.pls_knapsack.specs.Neighbours.{flipped};
 
 use super::{Knapsack, rows};
-use pls_vectors::{Sol, Vector};
+use pls_vectors::Sol;
 
 /// A feasible choice with the sum of its profits in each profit row and of its weights in each weight
 /// row; sums past the instance's rows are free.
@@ -15,7 +16,7 @@ pub struct Tally {
 }
 
 impl Knapsack {
-    ghost use Rattle.pls_knapsack.specs.Walk.{IsTally, point_if_feasible};
+    ghost use Rattle.pls_knapsack.specs.Walk.{IsTally};
 
     /// The tally of a choice.
     pub(super) fn tally(&self, sol: &Sol) -> Tally
@@ -103,46 +104,31 @@ impl Knapsack {
         Tally { sol, values, loads }
     }
 
-    /// The choice with an item put in that is not chosen, and its value, where the item fits.
-    pub(super) fn with_put(&self, tally: &Tally, item: u16) -> Option<(Vector, Sol)>
+    /// The sums of the profits once an item is flipped.
+    pub(super) fn values_flipped(&self, tally: &Tally, item: u16) -> [u32; 4]
         requires tally { IsTally self.now tally.now }
         requires item_in { item < self.now.items }
-        requires free { chosen tally.now.sol item ≡ false }
-        ensures { result ≡ point_if_feasible self.now (with_item tally.now.sol item true) }
+        ensures { (row : ℕ) → row < self.now.objectives
+            → slice_index result row ≡ sum_chosen self.now (flipped tally.now.sol item) (profit self.now row) }
     {
-        if !self.fits(tally, item) {
-            return None;
+        let mut values = tally.values;
+        if tally.sol.bit(item) {
+            rows::take_item(
+                &mut values,
+                &self.profits,
+                self.items,
+                self.objectives,
+                item,
+            );
+        } else {
+            rows::add_item(
+                &mut values,
+                &self.profits,
+                self.items,
+                self.objectives,
+                item,
+            );
         }
-        let mut values = tally.values;
-        rows::add_item(
-            &mut values,
-            &self.profits,
-            self.items,
-            self.objectives,
-            item,
-        );
-        let mut sol = tally.sol;
-        sol.set_bit(item, true);
-        Some((rows::vector_of(&values, self.objectives), sol))
-    }
-
-    /// The choice with a chosen item left out, and its value.
-    pub(super) fn with_taken(&self, tally: &Tally, item: u16) -> (Vector, Sol)
-        requires tally { IsTally self.now tally.now }
-        requires item_in { item < self.now.items }
-        requires taken { chosen tally.now.sol item ≡ true }
-        ensures { Some result ≡ point_if_feasible self.now (with_item tally.now.sol item false) }
-    {
-        let mut values = tally.values;
-        rows::take_item(
-            &mut values,
-            &self.profits,
-            self.items,
-            self.objectives,
-            item,
-        );
-        let mut sol = tally.sol;
-        sol.set_bit(item, false);
-        (rows::vector_of(&values, self.objectives), sol)
+        values
     }
 }

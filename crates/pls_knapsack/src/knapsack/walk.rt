@@ -1,10 +1,10 @@
-ghost use Rattle.std.specs.Prelude.{◌≡◌, ◌↔◌, ◌+◌, ◌<◌, ◌≤◌, ◌++◌, [], true, IsNone, IfSome, IfNone, option_to_list, length};
-ghost use Rattle.pls_vectors.specs.Solution.{chosen};
-ghost use Rattle.pls_knapsack.specs.Instance.{feasible, value};
-ghost use Rattle.pls_knapsack.specs.Neighbours.{flipped, neighbours, points};
+ghost use Rattle.std.specs.Prelude.{◌≡◌, ◌↔◌, ◌+◌, ◌<◌, ◌≤◌, ◌++◌, [], true, false, IsNone, IfSome, IfNone, option_to_list, option_map, length, if◌then◌else◌};
+ghost use Rattle.pls_vectors.specs.Solution.{chosen, with_item};
+ghost use Rattle.pls_knapsack.specs.Instance.{IsWithinLimits, feasible, value};
+ghost use Rattle.pls_knapsack.specs.Neighbours.{flipped, neighbours, point, points};
 
-use super::Knapsack;
 use super::tally::Tally;
+use super::{Knapsack, rows};
 use pls_vectors::{Sol, Vector};
 
 /// A walk over the neighbours of a feasible choice: which flips and exchanges are still to be tried,
@@ -19,7 +19,7 @@ pub struct Walk {
 }
 
 impl Knapsack {
-    ghost use Rattle.pls_knapsack.specs.Walk.{IsTally, IsWalkOf, left, flips_left, exchanges_left, point_if_feasible};
+    ghost use Rattle.pls_knapsack.specs.Walk.{IsTally, IsWalkOf, left, flips_left, exchanges_left};
 
     /// The walk over the neighbours of a feasible choice, at most 16,640, which has given none of them.
     pub fn walk(&self, sol: &Sol) -> Walk
@@ -55,88 +55,110 @@ impl Knapsack {
         ensures value { IfSome result (λ p. p.0 ≡ value self.now p.1) }
         ensures parts { IfSome result (λ p. length p.0 ≡ self.now.objectives) }
     {
-        match self.next_flip(walk) {
-            Some(point) => Some(point),
-            None => self.next_exchange(walk),
+        let Some((flips, item)) = self.find(walk) else {
+            return None;
+        };
+        let tally = if flips { &walk.start } else { &walk.reduced };
+        let values = self.values_flipped(tally, item);
+        let mut sol = tally.sol;
+        sol.set_bit(item, !tally.sol.bit(item));
+        Some((rows::vector_of(&values, self.objectives), sol))
+    }
+
+    /// The item of the next feasible flip of the start, or else of the reduced choice, and whether it is of the start.
+    fn find(&self, walk: &mut Walk) -> Option<(bool, u16)>
+        requires { IsWalkOf self.now walk.old }
+        ensures made { IsWalkOf self.now walk.new }
+        ensures item_in { IfSome result (λ found. found.1 < self.now.items) }
+        ensures feasible { IfSome result (λ found. feasible self.now (flipped (if found.0 then walk.new.start.sol else walk.new.reduced.sol) found.1) ≡ true) }
+        ensures step { left self.now walk.old
+            ≡ option_to_list (option_map (λ found. point self.now (flipped (if found.0 then walk.new.start.sol else walk.new.reduced.sol) found.1)) result)
+            ++ left self.now walk.new }
+        ensures end { IfNone result (left self.now walk.new ≡ []) }
+    {
+        match self.find_flip(walk) {
+            Some(item) => Some((true, item)),
+            None => match self.find_exchange(walk) {
+                Some(item) => Some((false, item)),
+                None => None,
+            },
         }
     }
 
-    /// The next feasible flip.
-    fn next_flip(&self, walk: &mut Walk) -> Option<(Vector, Sol)>
+    /// The item of the next feasible flip.
+    fn find_flip(&self, walk: &mut Walk) -> Option<u16>
         requires { IsWalkOf self.now walk.old }
         ensures made { IsWalkOf self.now walk.new }
+        ensures item_in { IfSome result (λ item. item < self.now.items) }
+        ensures feasible { IfSome result (λ item. feasible self.now (flipped walk.new.start.sol item) ≡ true) }
         ensures step { points self.now (flips_left self.now walk.old)
-            ≡ option_to_list result ++ points self.now (flips_left self.now walk.new) }
+            ≡ option_to_list (option_map (λ item. point self.now (flipped walk.new.start.sol item)) result)
+            ++ points self.now (flips_left self.now walk.new) }
         ensures end { IfNone result (flips_left self.now walk.new ≡ []) }
         ensures exchanges { exchanges_left self.now walk.new ≡ exchanges_left self.now walk.old }
-        ensures feasible { IfSome result (λ p. feasible self.now p.1 ≡ true) }
-        ensures value { IfSome result (λ p. p.0 ≡ value self.now p.1) }
     {
         while walk.flip < self.items {
             let item = walk.flip;
             walk.flip += 1;
-            let point = self.flip(&walk.start, item);
-            if point.is_some() {
-                return point;
+            if self.can_flip(&walk.start, item) {
+                return Some(item);
             }
         }
         None
     }
 
-    /// The choice with an item flipped, and its value, where it is feasible.
-    fn flip(&self, tally: &Tally, item: u16) -> Option<(Vector, Sol)>
+    /// Whether the choice with an item flipped is feasible.
+    fn can_flip(&self, tally: &Tally, item: u16) -> bool
+        requires limits { IsWithinLimits self.now }
         requires tally { IsTally self.now tally.now }
         requires item_in { item < self.now.items }
-        ensures { result ≡ point_if_feasible self.now (flipped tally.now.sol item) }
+        ensures { result ≡ feasible self.now (flipped tally.now.sol item) }
     {
-        if tally.sol.bit(item) {
-            Some(self.with_taken(tally, item))
-        } else {
-            self.with_put(tally, item)
-        }
+        tally.sol.bit(item) || self.fits(tally, item)
     }
 
-    /// The next feasible exchange.
-    fn next_exchange(&self, walk: &mut Walk) -> Option<(Vector, Sol)>
+    /// The item that the next feasible exchange puts in.
+    fn find_exchange(&self, walk: &mut Walk) -> Option<u16>
         requires { IsWalkOf self.now walk.old }
         ensures made { IsWalkOf self.now walk.new }
+        ensures item_in { IfSome result (λ item. item < self.now.items) }
+        ensures free { IfSome result (λ item. chosen walk.new.reduced.sol item ≡ false) }
+        ensures feasible { IfSome result (λ item. feasible self.now (with_item walk.new.reduced.sol item true) ≡ true) }
         ensures step { points self.now (exchanges_left self.now walk.old)
-            ≡ option_to_list result ++ points self.now (exchanges_left self.now walk.new) }
+            ≡ option_to_list (option_map (λ item. point self.now (with_item walk.new.reduced.sol item true)) result)
+            ++ points self.now (exchanges_left self.now walk.new) }
         ensures flips { flips_left self.now walk.new ≡ flips_left self.now walk.old }
-        ensures feasible { IfSome result (λ p. feasible self.now p.1 ≡ true) }
-        ensures value { IfSome result (λ p. p.0 ≡ value self.now p.1) }
         ensures end { IfNone result (exchanges_left self.now walk.new ≡ []) }
     {
         while walk.take < self.items {
-            let point = self.next_put(walk);
-            if point.is_some() {
-                return point;
+            let item = self.find_put(walk);
+            if item.is_some() {
+                return item;
             }
             self.take_next(walk);
         }
-        self.next_put(walk)
+        self.find_put(walk)
     }
 
-    /// The next feasible exchange of the item that is taken out.
-    fn next_put(&self, walk: &mut Walk) -> Option<(Vector, Sol)>
+    /// The item that the next feasible exchange of the item that is taken out puts in.
+    fn find_put(&self, walk: &mut Walk) -> Option<u16>
         requires { IsWalkOf self.now walk.old }
         ensures made { IsWalkOf self.now walk.new }
+        ensures item_in { IfSome result (λ item. item < self.now.items) }
+        ensures free { IfSome result (λ item. chosen walk.new.reduced.sol item ≡ false) }
+        ensures feasible { IfSome result (λ item. feasible self.now (with_item walk.new.reduced.sol item true) ≡ true) }
         ensures step { points self.now (exchanges_left self.now walk.old)
-            ≡ option_to_list result ++ points self.now (exchanges_left self.now walk.new) }
+            ≡ option_to_list (option_map (λ item. point self.now (with_item walk.new.reduced.sol item true)) result)
+            ++ points self.now (exchanges_left self.now walk.new) }
         ensures flips { flips_left self.now walk.new ≡ flips_left self.now walk.old }
         ensures take { walk.new.take ≡ walk.old.take }
         ensures end { IfNone result (self.now.items ≤ walk.new.put) }
-        ensures feasible { IfSome result (λ p. feasible self.now p.1 ≡ true) }
-        ensures value { IfSome result (λ p. p.0 ≡ value self.now p.1) }
     {
         while walk.put < self.items {
             let item = walk.put;
             walk.put += 1;
-            if !walk.start.sol.bit(item) {
-                let point = self.with_put(&walk.reduced, item);
-                if point.is_some() {
-                    return point;
-                }
+            if !walk.start.sol.bit(item) && self.fits(&walk.reduced, item) {
+                return Some(item);
             }
         }
         None

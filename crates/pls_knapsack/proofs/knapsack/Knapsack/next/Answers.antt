@@ -1,50 +1,61 @@
-use Rattle.std.proofs.Common.{◌≡◌, ◌++◌, ◌∷◌, ℤ, List, length, ap, sym, ◌∙◌}
-use Rattle.pls_knapsack.specs.Neighbours.{points}
-use Rattle.pls_knapsack.specs.Walk.{left, flips_left, exchanges_left}
-use Rattle.pls_knapsack.proofs.Vectors.{length-value, if_some-length}
-use Rattle.pls_knapsack.proofs.Points.{left-exchange, left-nothing, if_none-map, ends}
+use Rattle.std.proofs.Common.{◌≡◌, ◌∷◌, ℤ, List, not, length, if◌then◌else◌, ap, sym, ◌∙◌}
+use Rattle.pls_vectors.specs.Solution.{Solution, with_item}
+use Rattle.pls_knapsack.specs.Neighbours.{flipped, point}
+use Rattle.pls_knapsack.specs.Walk.{left}
+use Rattle.pls_knapsack.proofs.Vectors.{length-value}
+use Rattle.pls_knapsack.proofs.Tallies.{tally-item, value-made}
 use Rattle.pls_knapsack.proofs.knapsack.Knapsack.next.Goals as goal
+use Rattle.pls_knapsack.proofs.knapsack.Knapsack.next.Goals.{After-vector_of, then-flips, else-flips}
 
-pub returns-in-Some-clause-step : goal.returns-in-Some-clause-step
-unfolding left
-returns-in-Some-clause-step c =
+pub bit-requires : goal.bit-requires
+bit-requires c =
     let k = c.args.self.now in
-    ap (λ front. front ++ points k (exchanges_left k c.args.walk.now)) c.in-Some.ensures.step
-    ∙ ap (λ behind. (c.in-Some.point ∷ points k (flips_left k c.next_flip.new.walk)) ++ points k behind) (sym c.in-Some.ensures.exchanges)
+    let w = c.find.new.walk in
+    let found = c.in-Some.ensures in
+    elim c.if-flips.branch [
+      | then-flips b ↦ rw b.tally-is (tally-item k w.start c.in-Some.item found.made.start found.item_in)
+      | else-flips b ↦ rw b.tally-is (tally-item k w.reduced c.in-Some.item found.made.reduced found.item_in)
+    ]
 
-pub returns-in-Some-clause-end : goal.returns-in-Some-clause-end
-unfolding left
-returns-in-Some-clause-end c =
+pub set_bit-requires : goal.set_bit-requires
+set_bit-requires c =
     let k = c.args.self.now in
-    let step : left k c.args.walk.now ≡ c.in-Some.point ∷ (points k (flips_left k c.next_flip.new.walk) ++ points k (exchanges_left k c.args.walk.now)) =
-    ap (λ front. front ++ points k (exchanges_left k c.args.walk.now)) c.in-Some.ensures.step in
-    (λ h. cc, λ e. cc)
+    let w = c.find.new.walk in
+    let found = c.in-Some.ensures in
+    elim c.if-flips.branch [
+      | then-flips b ↦ rw b.tally-is (tally-item k w.start c.in-Some.item found.made.start found.item_in)
+      | else-flips b ↦ rw b.tally-is (tally-item k w.reduced c.in-Some.item found.made.reduced found.item_in)
+    ]
 
-pub returns-in-None-clause-step : goal.returns-in-None-clause-step
-unfolding left
-returns-in-None-clause-step c =
+made-choice : (c : After-vector_of) → c.set_bit.new.self ≡ flipped c.if-flips.tally.now.sol c.in-Some.item
+made-choice c =
+    c.set_bit.ensures.value ∙ ap (λ on. with_item c.if-flips.tally.now.sol c.in-Some.item (not on)) c.bit.ensures
+
+found-choice :
+    (c : After-vector_of)
+    → (if c.in-Some.flips then c.find.new.walk.start.sol else c.find.new.walk.reduced.sol) ≡ c.if-flips.tally.now.sol
+found-choice c =
+    let w = c.find.new.walk in
+    elim c.if-flips.branch [
+      | then-flips b ↦ rw b.tally-is (ap (λ flips. if flips then w.start.sol else w.reduced.sol) b.if-flips.true)
+      | else-flips b ↦ rw b.tally-is (ap (λ flips. if flips then w.start.sol else w.reduced.sol) b.if-flips.false)
+    ]
+
+pub returns-clause-value : goal.returns-clause-value
+returns-clause-value c =
+    value-made c.args.self.now (flipped c.if-flips.tally.now.sol c.in-Some.item) c.set_bit.new.self c.vector_of.result c.values_flipped-values.result
+    (made-choice c) (rw (← c.self.view_is) c.vector_of.ensures) c.values_flipped-values.ensures
+
+pub returns-clause-step : goal.returns-clause-step
+returns-clause-step c =
     let k = c.args.self.now in
-    let flip = c.in-None.ensures in
-    let exchange = c.next_exchange.ensures in
-    left-exchange k (flips_left k c.args.walk.now) (flips_left k c.next_flip.new.walk) (flips_left k c.next_exchange.new.walk)
-    (exchanges_left k c.args.walk.now) (exchanges_left k c.next_flip.new.walk) (exchanges_left k c.next_exchange.new.walk)
-    c.next_exchange.result flip.step flip.end flip.exchanges exchange.step exchange.flips
+    let behind = left k c.find.new.walk in
+    let given : List (List ℤ × Solution) = (c.vector_of.result, c.set_bit.new.self) ∷ behind in
+    c.in-Some.ensures.step
+    ∙ (ap (λ s. point k (flipped s c.in-Some.item) ∷ behind) (found-choice c)
+    ∙ (ap (λ made. point k made ∷ behind) (sym (made-choice c))
+    ∙ ap (λ v. (v, c.set_bit.new.self) ∷ behind) (sym (returns-clause-value c))))
 
-pub returns-in-None-clause-end : goal.returns-in-None-clause-end
-unfolding left
-returns-in-None-clause-end c =
-    let k = c.args.self.now in
-    let flip = c.in-None.ensures in
-    let exchange = c.next_exchange.ensures in
-    let new = c.next_exchange.new.walk in
-    ends (left k c.args.walk.now) (points k (flips_left k new) ++ points k (exchanges_left k new)) c.next_exchange.result
-    (returns-in-None-clause-step c)
-    (if_none-map c.next_exchange.result
-    (λ done. left-nothing k (flips_left k new) (exchanges_left k new) (exchange.flips ∙ flip.end) done)
-    exchange.end)
-
-pub returns-in-Some-clause-parts : goal.returns-in-Some-clause-parts
-returns-in-Some-clause-parts c = ap (λ (parts : List ℤ). length parts) c.in-Some.ensures.value ∙ length-value c.args.self.now c.in-Some.point.1
-
-pub returns-in-None-clause-parts : goal.returns-in-None-clause-parts
-returns-in-None-clause-parts c = if_some-length c.args.self.now c.next_exchange.result c.next_exchange.ensures.value
+pub returns-clause-parts : goal.returns-clause-parts
+returns-clause-parts c =
+    ap (λ (parts : List ℤ). length parts) (returns-clause-value c) ∙ length-value c.args.self.now c.set_bit.new.self

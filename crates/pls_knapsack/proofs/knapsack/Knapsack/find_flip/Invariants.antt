@@ -1,7 +1,7 @@
 use Rattle.std.proofs.Common.{◌-◌, ◌≡◌}
 use Rattle.pls_knapsack.specs.Neighbours.{points}
 use Rattle.pls_knapsack.specs.Walk.{IsWalkOf, flips_left, exchanges_left}
-use Rattle.pls_knapsack.proofs.knapsack.Knapsack.next_flip.Given as goal
+use Rattle.pls_knapsack.proofs.knapsack.Knapsack.find_flip.Given as goal
 
 abbrev pub invariant-loop-walk : goal.invariant-loop-walk
 invariant-loop-walk l = record {
