@@ -55,26 +55,26 @@ module _ (passes rows : ℕ) where
   start_root : slice_index ws 0 ≡ 0
   start_root = owner_keeps_root passes rows zeros 0 1 ∙ blank (words_len passes rows) 0
 
-  start_reservation : (k : ℕ) → k < passes → reservation passes rows ws k ≡ 0
+  pub start_reservation : (k : ℕ) → k < passes → reservation passes rows ws k ≡ 0
   start_reservation k pass = owner_keeps_reservation passes rows zeros 0 1 k pass ∙ blank (words_len passes rows) (reservation_at passes rows k)
 
   start_owner : (x : ℕ) → x ≢ 0 → owner passes rows ws x ≡ 0
   start_owner x other = owner_keeps_owner passes rows zeros 0 1 x other ∙ blank (words_len passes rows) (owner_at passes rows x)
 
-  start_cell : 0 < rows → (x p : ℕ) → cell passes rows ws x p ≡ 0
+  pub start_cell : 0 < rows → (x p : ℕ) → cell passes rows ws x p ≡ 0
   start_cell some_row x p = owner_keeps_cell passes rows zeros 0 1 x p some_row ∙ blank (words_len passes rows) (cell_at passes rows x p)
 
-  start_version : version ws ≡ 0
+  pub start_version : version ws ≡ 0
   start_version = ap (λ w. w / 2 ^ 24) start_root
 
-  start_row : root_row ws ≡ 0
+  pub start_row : root_row ws ≡ 0
   start_row = ap (λ w. w % 2 ^ 24) start_root
 
   lone : (f : ℕ → List ℕ) (depth : ℕ) → f 0 ≡ [] → tree f depth 0 ≡ 0 ∷ []
   lone f zero none = refl
   lone f (suc depth) none = ap (λ xs. 0 ∷ flat_map (tree f depth) xs) none
 
-  start_live : 0 < rows → live passes rows ws ≡ 0 ∷ []
+  pub start_live : 0 < rows → live passes rows ws ≡ 0 ∷ []
   start_live some_row =
       ap (tree_at passes rows ws) start_row
       ∙ lone (links passes rows ws) rows (ap (λ w. links_by_count w) (start_cell some_row 0 0))

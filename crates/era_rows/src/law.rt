@@ -1,0 +1,34 @@
+//! The law of the rows.
+
+/// Which entries are accepted, which trees of rows are lawful, and for which accepted entries a lawful tree stands.
+/// Each definition takes the shape, a number that the rows keep from their start. A law has no calls.
+pub trait Law {
+    ghost use Rattle.std.specs.Prelude.{ℕ, Bool, List, []};
+    ghost use Rattle.era_core.specs.Versions.{Copy};
+    ghost use Rattle.era_rows.specs.Trees.{first_copy, IsTree};
+
+    /// What a publication or an unpin adds to the list of a caller.
+    type Entry;
+
+    /// The pass that made the entry.
+    ghost caller: { Self.Entry → ℕ };
+
+    /// How many accepted entries there were then, with this one if it is accepted.
+    ghost stamp: { Self.Entry → ℕ };
+
+    ghost accepted: { ℕ → Self.Entry → Bool };
+
+    ghost lawful: { ℕ → Copy → Type 0 };
+
+    /// The lawful tree stands for these accepted entries.
+    ghost stands: { ℕ → Copy → List Self.Entry → Type 0 };
+
+    /// The entry is right at these accepted entries.
+    ghost right: { ℕ → Self.Entry → List Self.Entry → Type 0 };
+
+    /// Each lawful tree is a tree of rows.
+    ghost fits: { (shape : ℕ) (c : Copy) → lawful shape c → IsTree c };
+
+    /// Row 0 alone, with all words 0, is lawful, and stands for no entry.
+    ghost begins: { (shape : ℕ) → lawful shape first_copy × stands shape first_copy [] };
+}

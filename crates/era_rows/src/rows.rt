@@ -1,0 +1,25 @@
+//! The rows.
+ghost use Rattle.std.specs.Prelude.{◌≡◌, ◌≤◌};
+ghost use Rattle.era_core.specs.Words.{words_len};
+
+use crate::law::Law;
+use crate::plays::Keeping;
+use crate::sizes::Sizes;
+use crate::views::Knows;
+use atomic_table::Table;
+use std::alloc::Global;
+
+/// Rows of 40 words that the threads of its passes share.
+#[derive(Drop)]
+pub struct Rows<L: Law> {
+    pub(crate) table: Table<(), Knows<L::Entry>, Sizes, Keeping<L>, Global>,
+    pub(crate) shape: u64,
+    pub(crate) rows: u32,
+    pub(crate) passes: u32,
+    ghost sized: { table.shared.key ≡ record { shape = shape; rows = rows; passes = passes } },
+    ghost long: { table.shared.table_id.words ≡ words_len passes rows },
+    ghost some_rows: { 64 ≤ rows },
+    ghost few_rows: { rows ≤ 262144 },
+    ghost some_passes: { 1 ≤ passes },
+    ghost few_passes: { passes ≤ 64 },
+}
