@@ -1,10 +1,10 @@
 -- The rule holds at the start.
-use Rattle.std.proofs.Common.{take, Bool, ◌≡◌, ℕ, zero, suc, ◌+◌, ◌-◌, ◌<◌, ltb, le-ltb, Some, List, [], ◌∷◌, flat_map, refl, sym, ap, subst, ◌∙◌, arith}
+use Rattle.std.proofs.Common.{take, Bool, ◌≡◌, ℕ, zero, suc, ◌+◌, ◌-◌, ◌<◌, ltb, le-ltb, Some, None, List, [], ◌∷◌, flat_map, refl, sym, ap, subst, ◌∙◌, arith}
 use Rattle.std.proofs.lemmas.List.{append-nil}
 use Rattle.std.proofs.lemmas.Option.{same_Some, none-some}
 use Rattle.era_core.specs.Lists.{times}
 use Rattle.era_core.specs.Words.{start_words, tree_at}
-use Rattle.era_core.specs.Views.{start_view}
+use Rattle.era_core.specs.Views.{start_view, held}
 use Rattle.era_core.specs.Versions.{Cell, Copy, cells_from, copy_at}
 use Rattle.era_core.specs.Sound.{Sound}
 use Rattle.era_core.specs.Machine.{start_views, start_copies}
@@ -122,6 +122,7 @@ module _ {E : Type 0} (caller stamp : E → ℕ) (accepted : ℕ → E → Bool)
         means = means_first;
         once = one_list;
         each = each_first;
+        spent = none_spent;
       }
         where
           means_first : (n : ℕ) (c : Copy) → get_elem? (first_copy ∷ []) n ≡ some c → lawful key.shape c × stands key.shape c (take n [])
@@ -136,3 +137,7 @@ module _ {E : Type 0} (caller stamp : E → ℕ) (accepted : ℕ → E → Bool)
               subst (λ n. Agrees caller stamp accepted lawful stands right key words [] (first_copy ∷ []) 1 n k) number
               (subst (λ (x : Knows E). Agrees caller stamp accepted lawful stands right key words [] (first_copy ∷ []) 1 0 x) same first)
           each_first (suc i) j k there is = absurd (some-ne-none k (sym there))
+
+          none_spent : (i : ℕ) (k : Knows E) → get_elem? (first_knows key ∷ []) i ≡ some k → k.view.core.number ≡ None → held k.view.core ≡ []
+          none_spent zero k there none = ap (λ (x : Knows E). held x.view.core) (sym (some-injective (first_knows key) k there))
+          none_spent (suc i) k there none = absurd (some-ne-none k (sym there))

@@ -37,3 +37,8 @@ at_filter {A} f (x ∷ xs) i a there = by_test (at_filter f xs) (f x) refl i the
 pub at_behind : {A : Type 0} (xs ys : List A) (i : ℕ) → get_elem? (xs ++ ys) (length xs + i) ≡ get_elem? ys i
 at_behind [] ys i = ap (get_elem? ys) (let e : 0 + i ≡ i = omega arith in e)
 at_behind (x ∷ xs) ys i = ap (get_elem? (x ∷ xs ++ ys)) (let e : suc (length xs) + i ≡ suc (length xs + i) = omega arith in e) ∙ at_behind xs ys i
+
+-- a filter that keeps no element leaves nothing
+pub none_kept : {A : Type 0} (f : A → Bool) (xs : List A) → ((n : ℕ) (a : A) → get_elem? xs n ≡ some a → f a ≡ false) → filter f xs ≡ []
+none_kept f [] none = refl
+none_kept f (x ∷ xs) none = ap (λ b. cond b (x ∷ filter f xs) (filter f xs)) (none zero x refl) ∙ none_kept f xs (λ n a there. none (suc n) a there)

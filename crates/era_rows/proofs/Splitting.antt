@@ -1,5 +1,5 @@
 -- The first pass splits off the next one.
-use Rattle.std.proofs.Common.{◌≡◌, ◌≢◌, ℕ, zero, suc, ◌+◌, ◌-◌, ◌<◌, ⊎_elim, Bool, false, cond, eqb, ltb, lt-ltb, le-ltb, ne_eqb, Some, None, List, [], ◌∷◌, ◌++◌, map, set, filter, length, refl, sym, ap, subst, ◌∙◌, arith}
+use Rattle.std.proofs.Common.{◌≡◌, ◌≢◌, ℕ, zero, suc, ◌+◌, ◌-◌, ◌<◌, ⊎_elim, Bool, cond, eqb, ltb, lt-ltb, le-ltb, ne_eqb, Some, None, List, [], ◌∷◌, ◌++◌, map, set, length, refl, sym, ap, subst, ◌∙◌, arith}
 use Rattle.std.proofs.lemmas.Bool.{cases_eq, cases_lt}
 use Rattle.std.proofs.lemmas.Option.{same_Some, none-some}
 use Rattle.std.specs.Prelude.{unwrap_or}
@@ -16,7 +16,7 @@ use Rattle.era_rows.specs.Lists.{of_caller, IsListOf}
 use Rattle.era_rows.specs.Rule.{core_of, callers_of, left_knows, right_knows, Agrees, Kept}
 use Rattle.era_rows.specs.declared.views.Knows.{Knows}
 use Rattle.era_rows.specs.declared.sizes.Sizes.{Sizes}
-use Rattle.era_rows.proofs.Seats.{bit, core_at}
+use Rattle.era_rows.proofs.Seats.{bit, core_at, none_kept}
 use Rattle.era_rows.proofs.Opening.{no_entries}
 use mathlib.Core.Option.{some, some-injective, some-ne-none}
 use lib.ListN.{get_elem?}
@@ -28,10 +28,6 @@ at_after (x ∷ xs) rest a = at_after xs rest a
 total_snoc : {A : Type 0} (f : A → ℕ) (xs : List A) (a : A) → total f (xs ++ a ∷ []) ≡ total f xs + f a
 total_snoc f [] a = omega arith
 total_snoc f (x ∷ xs) a = let rest = total_snoc f xs a in omega arith
-
-none_kept : {A : Type 0} (f : A → Bool) (xs : List A) → ((n : ℕ) (a : A) → get_elem? xs n ≡ some a → f a ≡ false) → filter f xs ≡ []
-none_kept f [] none = refl
-none_kept f (x ∷ xs) none = ap (λ b. cond b (x ∷ filter f xs) (filter f xs)) (none zero x refl) ∙ none_kept f xs (λ n a there. none (suc n) a there)
 
 module _ {E : Type 0} where
   core_snoc : (vs : List (Knows E)) (w : Knows E) (rest : List View) → map core_of (vs ++ w ∷ []) ++ rest ≡ map core_of vs ++ core_of w ∷ rest
@@ -205,6 +201,14 @@ module _ {E : Type 0} (caller stamp : E → ℕ) (accepted : ℕ → E → Bool)
           let e : next_number k.view ≡ m = same_Some (next_number k.view) m (ap (λ (x : Knows E). x.view.core.number) new ∙ is) in
           subst (λ n. Agrees caller stamp accepted lawful stands right key ws kept.log kept.copies (made + 1) n u) e
           (subst (λ (x : Knows E). Agrees caller stamp accepted lawful stands right key ws kept.log kept.copies (made + 1) (next_number k.view) x) new next_agrees))
+          (at_snoc (set vs i left) next u a there);
+      spent = λ a u there none.
+          ⊎_elim
+          (λ in_old. ⊎_elim
+          (λ t. absurd (none-some 0 (sym none ∙ ap (λ (x : Knows E). x.view.core.number) (sym t.1) ∙ mine)))
+          (λ t. kept.spent a u t.1 none)
+          (at_set vs i a left u in_old))
+          (λ new. absurd (none-some (next_number k.view) (sym none ∙ ap (λ (x : Knows E). x.view.core.number) (sym new))))
           (at_snoc (set vs i left) next u a there);
     }
 

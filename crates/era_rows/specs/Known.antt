@@ -1,16 +1,18 @@
 -- What a running pass knows beside the entries that it has seen, and what each step adds to it.
-use Rattle.std.specs.Prelude.{◌/◌, ◌^◌, ℕ, ◌+◌, ◌&&◌, not, ◌==◌, Option, Some, None, List, [], ◌∷◌, ◌++◌, filter, unwrap_or}
-use Rattle.era_core.specs.Words.{owner_at}
-use Rattle.era_core.specs.Views.{noting, unpinning, View, start_view, taking, freeing}
-use Rattle.era_core.specs.Versions.{Cell, Copy}
-use Rattle.era_rows.specs.Trees.{first_copy}
+use Rattle.std.specs.Prelude.{◌/◌, ◌%◌, ◌^◌, ℕ, ◌+◌, nat_lt, ◌&&◌, not, ◌==◌, if◌then◌else◌, Option, Some, None, option_and_then, List, [], ◌∷◌, ◌++◌, filter, drop, length, slice_get, unwrap_or}
+use Rattle.era_core.specs.Lists.{is_in, tree}
+use Rattle.era_core.specs.Words.{root_word, reservation_at, owner_at}
+use Rattle.era_core.specs.Views.{View, start_view, versions_of, noting, pinning, reading, taking, publishing, unpinning, looking, freeing}
+use Rattle.era_core.specs.Versions.{Cell, Copy, known_links}
+use Rattle.era_rows.specs.Trees.{first_copy, no_copy}
 
 -- a word that a load or a compare and exchange found, with its place
 abbrev pub Look : Type 0
 Look = ℕ × ℕ
 
--- What is recorded where no row was free and none could be freed: the looks since the last pin, the versions of the
--- batches kept then, how many rows were fresh then, and the pass that looked
+-- What is recorded where no row was free: the looks since the last pin, which show that each row has an owner and, after a
+-- scan of the reservations, what blocks each batch; the versions of the batches kept then; how many rows were fresh then; and
+-- the pass that looked
 pub record Shortage : Type 0 where
   pub looks : List Look
   pub versions : List ℕ
@@ -78,9 +80,31 @@ taking_row r k = record k { core = taking r k.core; looks = k.looks ++ (owner_at
 abbrev pub forget : ℕ → ℕ → List Cell → List Cell
 forget r p cells = filter (λ c. not ((c.row == r) && (c.place == p))) cells
 
--- the cells of other rows than this
-abbrev pub of_others : ℕ → List Cell → List Cell
-of_others r cells = filter (λ c. not (c.row == r)) cells
+-- the cells of these rows, and those of all other rows
+abbrev pub of_rows : List ℕ → List Cell → List Cell
+of_rows rows cells = filter (λ c. is_in c.row rows) cells
+
+abbrev pub of_others : List ℕ → List Cell → List Cell
+of_others rows cells = filter (λ c. not (is_in c.row rows)) cells
+
+-- the copy of the version that is pinned, if one is
+abbrev pub copy_of : Option (ℕ × ℕ) → List Copy → Copy
+copy_of pinned copies = unwrap_or (option_and_then (λ (pin : ℕ × ℕ). slice_get copies pin.0) pinned) no_copy
+
+abbrev pub pinned_copy : Known → Copy
+pinned_copy k = copy_of k.core.pinned k.copies
+
+-- the words that the pass knows: those that it wrote, and those of the version that it has pinned
+abbrev pub known_words : Known → List Cell
+known_words k = k.written ++ (pinned_copy k).cells
+
+-- the tree at row q that these words make, where there are so many rows
+abbrev pub copy_by : ℕ → List Cell → ℕ → Copy
+copy_by rows cells q = record { root = q; rows = tree (known_links cells) rows q; cells = of_rows (tree (known_links cells) rows q) cells }
+
+-- the tree at row q, by the words that the pass knows
+abbrev pub copy_known : Known → ℕ → Copy
+copy_known k q = copy_by k.rows (known_words k) q
 
 -- a step wrote the word into row r at the place
 abbrev pub writing : ℕ → ℕ → ℕ → Known → Known
@@ -88,7 +112,7 @@ writing r p w k = record k { written = record { row = r; place = p; word = w } �
 
 -- a step gave row r back, a fresh one or a retired one
 abbrev pub freeing_row : ℕ → Known → Known
-freeing_row r k = record k { core = freeing r k.core; written = of_others r k.written }
+freeing_row r k = record k { core = freeing r k.core; written = of_others (r ∷ []) k.written }
 
 -- Note found this root word
 abbrev pub noting_root : ℕ → Known → Known
@@ -98,6 +122,70 @@ noting_root w k = record k { core = noting (w / 2 ^ 24) k.core; looks = k.looks 
 abbrev pub reserving : ℕ → Known → Known
 reserving n k = record k { reserves = n + 1 }
 
+-- Pin found this root word, and the pass knows these copies
+abbrev pub pinning_root : ℕ → List Copy → Known → Known
+pinning_root w copies k = record k { core = pinning (w / 2 ^ 24) (w % 2 ^ 24) k.core; copies = copies; looks = k.looks ++ (0, w) ∷ []; since = length k.looks }
+
+-- Read found the word at the place
+abbrev pub reading_word : ℕ → ℕ → Known → Known
+reading_word i w k = record k { core = reading w k.core; looks = k.looks ++ (i, w) ∷ [] }
+
+-- Publish found another root word, and the pass knows these copies
+abbrev pub losing : ℕ → List Copy → Known → Known
+losing w copies k = record k { copies = copies; looks = k.looks ++ (0, w) ∷ [] }
+
+-- Publish put the tree at row q in the place of version n, whose root row is p
+abbrev pub publishing_tree : ℕ → ℕ → ℕ → Known → Known
+publishing_tree n p q k =
+    record k {
+      core = publishing n (pinned_copy k).rows (copy_known k q).rows k.core;
+      copies = k.copies ++ copy_known k q ∷ [];
+      written = of_others (copy_known k q).rows k.written;
+      looks = k.looks ++ (0, root_word n p) ∷ [];
+    }
+
 -- Unpin gave the reservation up
 abbrev pub leaving : Known → Known
 leaving k = record k { core = unpinning k.core; reserves = 0 }
+
+-- Look found the word in the reservation of pass j
+abbrev pub looking_at : ℕ → ℕ → Known → Known
+looking_at j w k = record k { core = looking j w k.core; looks = k.looks ++ (reservation_at k.passes k.rows j, w) ∷ [] }
+
+-- what is recorded where no row is free: the looks from the last pin on
+abbrev pub shortage : Known → Option Shortage
+shortage k = Some (record { looks = drop k.since k.looks; versions = versions_of k.core.retired; fresh = length k.core.fresh; number = unwrap_or k.core.number 0 })
+
+-- a search that goes on records nothing
+abbrev pub same_shortage : Known → Option Shortage
+same_shortage k = k.full
+
+abbrev pub recording : (Known → Option Shortage) → Known → Known
+recording full k = record k { full = full k }
+
+-- the longer one of two lists that begin alike
+abbrev pub longer : {A : Type 0} → List A → List A → List A
+longer xs ys = if nat_lt (length xs) (length ys) then ys else xs
+
+-- the first, where it is there
+abbrev pub either_full : Option Shortage → Option Shortage → Option Shortage
+either_full None other = other
+either_full (Some full) other = Some full
+
+-- view u takes over what view v holds, and begins its scan anew
+abbrev pub joining : View → View → View
+joining u v = record u { fresh = u.fresh ++ v.fresh; retired = u.retired ++ v.retired; scanned = 0; least = None }
+
+-- what is left of a view that was joined into another
+abbrev pub spent_view : View
+spent_view = record { number = None; noted = None; pinned = None; fresh = []; retired = []; scanned = 0; least = None; last = None }
+
+-- the pass takes over what another knows and has, and begins its scan anew
+abbrev pub joining_known : Known → Known → Known
+joining_known k l =
+    record k {
+      core = joining k.core l.core;
+      copies = longer k.copies l.copies;
+      written = k.written ++ l.written;
+      full = either_full k.full l.full;
+    }

@@ -2,7 +2,10 @@ pub mod Trees
 pub mod Known
 pub mod Lists
 pub mod Rule
+pub mod Held
 pub mod Plays
+pub mod Laws
+pub mod May
 pub mod Passes
-pub mod OneRow
-pub mod OneRowLaw
+pub mod Reach
+pub mod FirstTree

@@ -1,5 +1,5 @@
 -- Lists of entries: what was accepted, by whom, and which list is a caller's own.
-use Rattle.std.specs.Prelude.{◌≡◌, ℕ, ◌+◌, ◌<◌, ◌≤◌, Bool, true, false, ◌==◌, List, ◌++◌, filter, take}
+use Rattle.std.specs.Prelude.{◌≡◌, ℕ, ◌+◌, ◌<◌, ◌≤◌, Bool, true, false, ◌==◌, if◌then◌else◌, Option, Some, None, List, [], ◌∷◌, ◌++◌, map, filter, take}
 use mathlib.Core.Option.{some}
 use lib.ListN.{get_elem?}
 
@@ -10,6 +10,15 @@ IsPrefix {A} xs ys = (more : List A) × (xs ++ more ≡ ys)
 -- those of the entries that name the caller
 abbrev pub of_caller : {E : Type 0} → (E → ℕ) → ℕ → List E → List E
 of_caller caller c es = filter (λ e. caller e == c) es
+
+-- the entry goes to the end of the list of this caller
+abbrev pub add_entry : {E : Type 0} → ℕ → E → List (ℕ × List E) → List (ℕ × List E)
+add_entry c e lists = map (λ list. if list.0 == c then (list.0, list.1 ++ e ∷ []) else list) lists
+
+-- the entry, if there is one, goes to the end of its caller's list
+abbrev pub add_named : {E : Type 0} → (E → ℕ) → Option E → List (ℕ × List E) → List (ℕ × List E)
+add_named caller None lists = lists
+add_named caller (Some e) lists = add_entry (caller e) e lists
 
 module _ {E : Type 0} (caller stamp : E → ℕ) (accepted : ℕ → E → Bool) (right : ℕ → E → List E → Type 0) where
   -- The longest list of accepted entries: each was accepted, is right at those before it, and has its place as its stamp,

@@ -1,13 +1,13 @@
 -- The running rule: what holds between any two steps, of the words and of what the passes know.
--- A pass that was joined into another has no number, and nothing is said of what it knew.
+-- A pass that was joined into another has no number and holds no row, and nothing more is said of it.
 use Rattle.std.specs.Prelude.{◌≡◌, ℕ, ◌+◌, ◌-◌, ◌<◌, ◌≤◌, Bool, nat_lt, ◌==◌, if◌then◌else◌, Option, Some, None, List, [], ◌∷◌, ◌++◌, map, take, length}
 use Rattle.era_core.specs.Lists.{times, In, total}
 use Rattle.era_core.specs.Words.{version, reservation}
-use Rattle.era_core.specs.Views.{View}
+use Rattle.era_core.specs.Views.{View, held}
 use Rattle.era_core.specs.Versions.{Cell, Copy, Stands}
 use Rattle.era_core.specs.Sound.{Sound}
 use Rattle.era_core.specs.Machine.{start_views}
-use Rattle.era_rows.specs.Known.{Known, first_known, next_number, having_made, beginning}
+use Rattle.era_rows.specs.Known.{Known, first_known, next_number, having_made, beginning, longer, spent_view, joining_known}
 use Rattle.era_rows.specs.Lists.{IsPrefix, IsLog, IsListOf}
 use Rattle.era_rows.specs.declared.views.Knows.{Knows}
 use Rattle.era_rows.specs.declared.sizes.Sizes.{Sizes}
@@ -35,6 +35,13 @@ module _ {E : Type 0} where
 
   abbrev pub right_knows : Knows E → Knows E
   right_knows k = knowing k.seen ((next_number k.view, []) ∷ []) (beginning k.view)
+
+  -- The pass takes over what another knows and has. What the other knew is gone
+  abbrev pub both_knows : Knows E → Knows E → Knows E
+  both_knows k l = knowing (longer k.seen l.seen) (k.lists ++ l.lists) (joining_known k.view l.view)
+
+  abbrev pub spent_knows : Knows E
+  spent_knows = knowing [] [] (record (first_known 0 0 0) { core = spent_view; made = None })
 
 -- the pass knows the shape and how many rows and passes there are
 pub record HasSizes (key : Sizes) (shape rows passes : ℕ) : Type 0 where
@@ -86,3 +93,5 @@ module _ {E : Type 0} (caller stamp : E → ℕ) (accepted : ℕ → E → Bool)
     -- the list of each caller that has begun is held once
     pub once : (c : ℕ) → total (λ (k : Knows E). times c (callers_of k)) vs ≡ (if nat_lt c made then 1 else 0)
     pub each : (i j : ℕ) (k : Knows E) → get_elem? vs i ≡ some k → k.view.core.number ≡ Some j → Agrees ws log copies made j k
+    -- a pass that was joined into another holds no row
+    pub spent : (i : ℕ) (k : Knows E) → get_elem? vs i ≡ some k → k.view.core.number ≡ None → held k.view.core ≡ []

@@ -12,6 +12,10 @@ blank_cells place (suc n) = record { row = 0; place = place; word = 0 } ∷ blan
 abbrev pub first_copy : Copy
 first_copy = record { root = 0; rows = 0 ∷ []; cells = blank_cells 0 40 }
 
+-- a copy without rows
+abbrev pub no_copy : Copy
+no_copy = record { root = 0; rows = []; cells = [] }
+
 -- A tree of rows: all rows are different, and none counts more links than it has words after word 0.
 -- Word 0 of each row and the links that it counts are known, and each link is a row of the tree
 pub record IsTree (c : Copy) : Type 0 where

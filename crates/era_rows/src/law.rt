@@ -16,14 +16,16 @@ pub trait Law {
     /// How many accepted entries there were then, with this one if it is accepted.
     ghost stamp: { Self.Entry → ℕ };
 
+    /// A publication adds this entry. One that is not accepted goes to the list of its caller alone.
     ghost accepted: { ℕ → Self.Entry → Bool };
 
+    /// The tree of rows may be published.
     ghost lawful: { ℕ → Copy → Type 0 };
 
     /// The lawful tree stands for these accepted entries.
     ghost stands: { ℕ → Copy → List Self.Entry → Type 0 };
 
-    /// The entry is right at these accepted entries.
+    /// The entry is right at these accepted entries: those before it, if it is accepted, and else those up to its stamp.
     ghost right: { ℕ → Self.Entry → List Self.Entry → Type 0 };
 
     /// Each lawful tree is a tree of rows.
@@ -31,4 +33,21 @@ pub trait Law {
 
     /// Row 0 alone, with all words 0, is lawful, and stands for no entry.
     ghost begins: { (shape : ℕ) → lawful shape first_copy × stands shape first_copy [] };
+}
+
+/// Names the entry that a publication or an unpin adds, or none. What it names is known to contracts alone.
+pub trait Names<L: Law> {
+    ghost use Rattle.std.specs.Prelude.{Option};
+
+    ghost entry: { Self → Option L.Entry };
+}
+
+/// Names no entry.
+#[derive(Drop)]
+pub struct Nothing;
+
+impl<L: Law> Names<L> for Nothing {
+    ghost use Rattle.std.specs.Prelude.{None};
+
+    ghost entry = { λ _. None };
 }

@@ -1,21 +1,36 @@
 //! Rows of [`WIDTH`](era_core::WIDTH) words that threads share, on real atomic words.
 //!
 //! [`Rows`] keeps the words of the pure machine of `era_core` in one table, under a [`Law`] that says which trees of
-//! rows are lawful and for which entries they stand. Each thread steps with a [`Pass`], which has the rows that it took.
+//! rows are lawful and for which entries they stand. Each thread steps with a [`Pass`]: it pins a version and reads its
+//! rows, writes a new tree into rows that it took, and publishes it by one compare and exchange of the root word. A
+//! retired row is given out again only when no pass can read it. No call waits, and all but the start take no memory.
 //! `specs/Rule.antt` has the rule that holds between any two steps, in every schedule.
 #![tactic(auto)]
 
+mod accessors;
+mod joins;
 mod law;
+mod laws;
 mod pass;
+mod pins;
+mod places;
 mod plays;
+mod publishes;
+mod reach;
+mod reads;
+mod refusal;
 mod rows;
 mod sizes;
 mod starts;
-mod steps;
+mod takes;
 #[cfg(test)]
 mod tests;
+mod tidies;
 mod views;
+mod work;
 
-pub use law::Law;
+pub use law::{Law, Names, Nothing};
+pub use laws::{free_rows_are_unused, pinned_versions_stand};
 pub use pass::Pass;
+pub use refusal::PublishRefusal;
 pub use rows::Rows;

@@ -1,22 +1,29 @@
 //! The seat of one thread.
-ghost use Rattle.std.specs.Prelude.{◌≡◌, ℕ, ◌<◌, ◌≤◌, Some, [], vec_capacity};
-ghost use Rattle.era_core.specs.Lists.{times, In};
+ghost use Rattle.std.specs.Prelude.{◌≡◌, [], vec_capacity};
+ghost use Rattle.era_rows.specs.Held.{IsTied, HasRoom};
 
 use crate::law::Law;
 use crate::views::Knows;
 use atomic_table::Seat;
 
-/// One thread's seat at the rows, with the rows that it took.
+/// One thread's seat at the rows, with the rows that it took, those that it retired, and a work list for its caller.
 #[derive(Drop)]
 pub struct Pass<L: Law> {
     pub(crate) seat: Seat<(), Knows<L::Entry>>,
     pub(crate) number: u32,
+    // Where the next search for a free row begins.
     pub(crate) next: u32,
+    pub(crate) pinned: Option<(u64, u32)>,
     pub(crate) fresh: Vec<u32>,
-    ghost numbered: { seat.me.0.view.core.number ≡ Some number },
-    ghost tied: { fresh.items ≡ seat.me.0.view.core.fresh },
-    ghost roomy: { seat.me.0.view.rows ≤ vec_capacity fresh },
-    ghost different: { (r : ℕ) → times r fresh.items ≤ 1 },
-    ghost inside: { (r : ℕ) → In r fresh.items → r < seat.me.0.view.rows },
-    ghost turn: { next ≤ seat.me.0.view.rows },
+    // For each row: whether it is fresh.
+    pub(crate) loose: Vec<bool>,
+    // Room for the fresh rows of a tree.
+    pub(crate) reached: Vec<u32>,
+    pub(crate) marked: Vec<u32>,
+    // Each retired row, with the version at which it was retired.
+    pub(crate) retired: Vec<(u64, u32)>,
+    pub(crate) work: Vec<u64>,
+    ghost tied: { IsTied seat.me.0.view number next pinned fresh.items loose.items marked.items retired.items },
+    ghost bare: { seat.me.1 ≡ [] },
+    ghost roomy: { HasRoom seat.me.0.view.rows (vec_capacity fresh) (vec_capacity reached) (vec_capacity marked) (vec_capacity retired) (vec_capacity work) },
 }

@@ -39,7 +39,7 @@ impl<L: Law> Rows<L> {
         requires rows { (64 ≤ rows) × (rows ≤ 262144) }
         requires passes { (1 ≤ passes) × (passes ≤ 64) }
         ensures rows { IfOk result (λ t. (t.0.shape ≡ shape) × (t.0.rows ≡ rows) × (t.0.passes ≡ passes)) }
-        ensures seat { IfOk result (λ t. (t.1.table_id ≡ t.0.table.shared.table_id) × (t.1.me.0 ≡ knowing [] ((0, []) ∷ []) (started_known shape rows passes 1 0))) }
+        ensures seat { IfOk result (λ t. (t.1.table_id ≡ t.0.table.shared.table_id) × (t.1.me ≡ (knowing [] ((0, []) ∷ []) (started_known shape rows passes 1 0), []))) }
     {
         let words = first_words(alloc, rows, passes)?;
         let key = Sizes {
@@ -65,15 +65,22 @@ impl<L: Law> Rows<L> {
         number: u32,
     ) -> Result<Pass<L>, AllocError>
         requires table { seat.table_id ≡ self.now.table.shared.table_id }
-        requires starts { seat.me.0 ≡ knowing [] ((number, []) ∷ []) (started_known self.now.shape self.now.rows self.now.passes self.now.passes number) }
+        requires number { number < self.now.passes }
+        requires starts { seat.me ≡ (knowing [] ((number, []) ∷ []) (started_known self.now.shape self.now.rows self.now.passes self.now.passes number), []) }
         ensures { IfOk result (λ p. IsStarted self.now number p) }
     {
-        let fresh = Vec::with_capacity(alloc, self.rows as usize)?;
+        let rows = self.rows as usize;
         Ok(Pass {
             seat,
             number,
             next: 0,
-            fresh,
+            pinned: None,
+            fresh: Vec::with_capacity(alloc, rows)?,
+            loose: Vec::from_elem(alloc, false, rows)?,
+            reached: Vec::with_capacity(alloc, rows)?,
+            marked: Vec::with_capacity(alloc, rows)?,
+            retired: Vec::with_capacity(alloc, rows)?,
+            work: Vec::with_capacity(alloc, 2 * rows)?,
         })
     }
 
@@ -84,9 +91,9 @@ impl<L: Law> Rows<L> {
         seat: &mut Seat<(), Knows<L::Entry>>,
     ) -> Result<Vec<Pass<L>>, AllocError>
         requires table { seat.old.table_id ≡ self.now.table.shared.table_id }
-        requires first { seat.old.me.0 ≡ knowing [] ((0, []) ∷ []) (started_known self.now.shape self.now.rows self.now.passes 1 0) }
+        requires first { seat.old.me ≡ (knowing [] ((0, []) ∷ []) (started_known self.now.shape self.now.rows self.now.passes 1 0), []) }
         ensures table { seat.new.table_id ≡ self.now.table.shared.table_id }
-        ensures first { IfOk result (λ _. seat.new.me.0 ≡ knowing [] ((0, []) ∷ []) (started_known self.now.shape self.now.rows self.now.passes self.now.passes 0)) }
+        ensures first { IfOk result (λ _. seat.new.me ≡ (knowing [] ((0, []) ∷ []) (started_known self.now.shape self.now.rows self.now.passes self.now.passes 0), [])) }
         ensures count { IfOk result (λ others. vec_len others + 1 ≡ self.now.passes) }
         ensures others { IfOk result (λ others. (i : ℕ) (p : _) → get_elem? others.items i ≡ some p → IsStarted self.now (i + 1) p) }
     {
@@ -98,8 +105,9 @@ impl<L: Law> Rows<L> {
         Ok(others)
     }
 
-    /// Rows of the shape, with all words 0, and a pass for each thread; pass k is the k-th. Row 0 is version 0. All that a
-    /// pass needs later is reserved here. An error means that memory ran out.
+    /// So many rows, with all words 0, and a pass for each thread; pass k is the k-th. Row 0 is version 0, and all other rows
+    /// are free. The shape is a number that the law reads. All that a pass needs later is reserved here. An error means that
+    /// memory ran out.
     pub fn start(
         alloc: Global,
         shape: u64,

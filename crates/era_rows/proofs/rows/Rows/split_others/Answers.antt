@@ -13,7 +13,7 @@ split_seat-other-requires g c =
     let rows = c.args.self.now in
     let key = rows.table.shared.key in
     let seat = c.loop-number.seat in
-    let first = c.loop-number.invariant.1 in
+    let first = ap (λ m. m.0) c.loop-number.invariant.1 in
     let passes_are : key.passes ≡ rows.passes = ap (λ k. k.passes) rows.sized in
     let next : next_number seat.me.0.view ≡ c.loop-number.number = ap (λ k. next_number k.view) first in (
       c.loop-number.invariant.0,
@@ -27,7 +27,7 @@ loop-number-preserved g c =
     let items : c.push.new.self.items ≡ c.loop-number.others.items ++ c.in_ok-seated.field-0 ∷ [] = search rules in
     let count = c.loop-number.invariant.2 in (
       search rules,
-      ap (λ m. m.0) c.split_seat-other.ensures.2 ∙ ap left_knows c.loop-number.invariant.1,
+      c.split_seat-other.ensures.2 ∙ ap (λ m. (left_knows m.0, m.1)) c.loop-number.invariant.1,
       search rules,
       λ i p there.
           ⊎_elim

@@ -10,6 +10,6 @@ use lib.ListN.{get_elem?}
 abbrev pub invariant-loop-number : goal.invariant-loop-number
 invariant-loop-number g l =
     (l.seat.table_id ≡ l.self.table.shared.table_id)
-    × (l.seat.me.0 ≡ knowing [] ((0, []) ∷ []) (started_known l.self.shape l.self.rows l.self.passes l.number 0))
+    × (l.seat.me ≡ (knowing [] ((0, []) ∷ []) (started_known l.self.shape l.self.rows l.self.passes l.number 0), []))
     × (vec_len l.others + 1 ≡ l.number)
     × ((i : ℕ) (p : _) → get_elem? l.others.items i ≡ some p → IsStarted l.self (i + 1) p)

@@ -9,5 +9,5 @@ loop-row-preserved g c =
       c.try_take.ensures.pass,
       search rules,
       search rules,
-      search_more c.args.from c.loop-row.row _ _ _ busy.0 _ c.loop-row.invariant.3 busy.1 (omega (arith, sized.passes_are)) busy.2,
+      search_more c.args.from c.loop-row.row _ _ _ busy.0 _ c.loop-row.invariant.3 c.loop-row.invariant.2 busy.1 (omega (arith, sized.passes_are)) (c.try_take.ensures.alone (search rules)) busy.2,
     )

@@ -9,4 +9,4 @@ returns-clause-searched g c =
     let mid = c.take_among.new.pass in
     let none : c.take_among.result ≡ None = search rules in
     let first = subst (λ o. Searches pass.next c.args.self.now.rows (known_of pass) (known_of mid) o) none c.take_among.ensures.searched in
-    search_again pass.next c.args.self.now.rows (known_of pass) (known_of mid) _ c.take_among-2.result (let turn = pass.turn in let sized = c.requires.sized in omega (arith, sized.rows_are)) first c.take_among-2.ensures.searched
+    search_again pass.next c.args.self.now.rows (known_of pass) (known_of mid) _ c.take_among-2.result (let turn = pass.tied.turn in let sized = c.requires.sized in omega (arith, sized.rows_are)) first c.take_among-2.ensures.searched

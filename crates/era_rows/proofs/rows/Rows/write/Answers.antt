@@ -1,7 +1,14 @@
-use Rattle.std.proofs.Common.{rules, ◌≡◌, ◌<◌, sym, ap, subst, ◌∙◌, arith}
-use Rattle.era_core.specs.Lists.{In}
+use Rattle.std.proofs.Common.{rules, ◌≡◌, ◌<◌, refl, ap, ◌∙◌, arith}
+use Rattle.era_rows.specs.declared.views.Knows.{Knows}
+use Rattle.era_rows.proofs.Tied.{tied_as, room_as, tied_row, tied_written}
 use Rattle.era_rows.proofs.Allowing.{writes_at}
 use Rattle.era_rows.proofs.rows.Rows.write.Goals as goal
+
+pub cell_place-at-requires : goal.cell_place-at-requires
+cell_place-at-requires g c =
+    let pass = c.args.pass.now in
+    let low = tied_row pass.tied c.args.row c.requires.fresh in
+    let sized = c.requires.pass.sized in (omega (arith, sized.rows_are), c.requires.place)
 
 pub store-requires : goal.store-requires
 store-requires g c =
@@ -12,26 +19,26 @@ store-requires g c =
     let sized = c.requires.pass.sized in
     let passes_are : key.passes ≡ rows.passes = ap (λ k. k.passes) rows.sized in
     let rows_are : key.rows ≡ rows.rows = ap (λ k. k.rows) rows.sized in
-    let row : c.args.row < rows.rows = (let low = pass.inside c.args.row (subst (In c.args.row) (sym pass.tied) c.requires.fresh) in omega (arith, sized.rows_are)) in (
+    let row : c.args.row < rows.rows = (let low = tied_row pass.tied c.args.row c.requires.fresh in omega (arith, sized.rows_are)) in (
       c.requires.pass.at_table,
       (let long = rows.long in let near = c.requires.place in omega arith),
-      writes_at g.L.Law.caller g.L.Law.stamp g.L.Law.accepted g.L.Law.lawful g.L.Law.stands g.L.Law.right key rows.table.shared.table_id.slots pass.seat.id pass.number pass.seat.me pass.numbered
+      writes_at g.L.Law.caller g.L.Law.stamp g.L.Law.accepted g.L.Law.lawful g.L.Law.stands g.L.Law.right key rows.table.shared.table_id.slots pass.seat.id pass.number pass.seat.me pass.tied.numbered
           c.args.row c.args.place _ c.args.word (omega arith) c.requires.fresh c.requires.place,
     )
 
 pub invariant_of-pass : goal.invariant_of-pass
 invariant_of-pass g c =
     let pass = c.args.pass.now in
+    let k = pass.seat.me.0.view in
     let place = c.cell_place-at.ensures in
     let sized = c.requires.pass.sized in
-    let now = (c.store.ensures.2 c.args.row c.args.place c.requires.place (omega (arith, sized.passes_are, sized.rows_are))).0 in
+    let told = c.store.ensures.2 c.args.row c.args.place c.requires.place (omega (arith, sized.passes_are, sized.rows_are)) in
+    let now = ap (λ (x : Knows g.row.L-Entry.Denot). x.view) told.0 in
     record {
-      numbered = ap (λ k. k.view.core.number) now ∙ pass.numbered;
-      tied = pass.tied ∙ ap (λ k. k.view.core.fresh) (sym now);
-      roomy = (let roomy = pass.roomy in omega (arith, ap (λ k. k.view.rows) now));
-      different = pass.different;
-      inside = λ r here. (let low = pass.inside r here in omega (arith, ap (λ k. k.view.rows) now));
-      turn = (let turn = pass.turn in omega (arith, ap (λ k. k.view.rows) now));
+      tied = tied_as now refl refl refl refl refl
+          (tied_written pass.tied c.args.row c.args.place c.args.word c.requires.fresh);
+      bare = told.1 ∙ pass.bare;
+      roomy = room_as (ap (λ x. x.rows) now) refl refl refl refl refl pass.roomy;
     }
 
 pub returns-clause-pass : goal.returns-clause-pass
@@ -53,4 +60,4 @@ returns-clause-same g c =
     let place = c.cell_place-at.ensures in
     let sized = c.requires.pass.sized in
     let now = (c.store.ensures.2 c.args.row c.args.place c.requires.place (omega (arith, sized.passes_are, sized.rows_are))).0 in
-    record { same_number = search rules; same_seen = ap (λ k. k.seen) now; same_lists = ap (λ k. k.lists) now }
+    record { same_pass = record { same_number = search rules; same_work = search rules }; same_marks = search rules; same_seen = ap (λ k. k.seen) now; same_lists = ap (λ k. k.lists) now }

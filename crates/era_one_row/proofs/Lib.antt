@@ -1,0 +1,4 @@
+pub mod Replacing
+pub mod Preparing
+pub mod Finishing
+pub mod Starting

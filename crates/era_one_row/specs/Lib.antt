@@ -1,0 +1,3 @@
+pub mod OneRow
+pub mod OneRowLaw
+pub mod Ready

@@ -1,0 +1,15 @@
+//! The smallest use of `era_rows`: one row that threads share, and that each publication replaces by another.
+//!
+//! [`read_current`] reads a word of the current version, under any law. [`replace`] publishes a row with a word, under
+//! [`OneRow`], the law whose trees are one row without links.
+#![tactic(auto)]
+
+mod law;
+mod reads;
+mod replaces;
+#[cfg(test)]
+mod tests;
+
+pub use law::{OneRow, Stamped};
+pub use reads::read_current;
+pub use replaces::{Replaced, finish, open, prepare, replace};
