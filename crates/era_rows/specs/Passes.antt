@@ -30,8 +30,8 @@ AreTaken passes rows from to more = (r : ℕ) → from ≤ r → r < to → (i w
 abbrev pub OnlyTaken : ℕ → ℕ → ℕ → ℕ → List Look → Type 0
 OnlyTaken passes rows from to more = (i : ℕ) (l : Look) → get_elem? more i ≡ some l → (r : ℕ) × (from ≤ r) × (r < to) × (0 < l.1) × (l.0 ≡ owner_at passes rows r)
 
--- After looks at owners of these rows, which were not 0, the pass took row r, one of these, which was none of its fresh rows
--- and is not in the tree that it has pinned
+-- After looks at owners of these rows, which were not 0, the pass took row r, one of these, which it did not hold and which is
+-- not in the tree that it has pinned
 abbrev pub Takes : ℕ → ℕ → ℕ → Known → Known → Type 0
 Takes from to r before after =
     (from ≤ r) × (r < to) × IsUnused r before × ((more : List Look) × (after ≡ taking_row r (having_looked more before)) × OnlyTaken before.passes before.rows from to more)
