@@ -11,6 +11,11 @@ skip : (x y : ℕ) (b : Bool) (ys : List ℕ) → x ≢ y → times x (cond b (y
 skip x y true ys apart = times-tail x y ys apart
 skip x y false ys apart = refl
 
+-- of two numbers whose sum is positive, one is
+pub one_of_two : (m n : ℕ) → 0 < m + n → (0 < m) ⊎ (0 < n)
+one_of_two zero n some_there = inr (omega arith)
+one_of_two (suc m) n some_there = inl (omega arith)
+
 -- a row that has left stands there no more, and each other row as often as before
 pub times-without_gone : (x : ℕ) (gone xs : List ℕ) → In x gone → times x (without gone xs) ≡ 0
 times-without_gone x gone [] here = refl
@@ -34,7 +39,8 @@ times-without_kept x gone (y ∷ ys) stays =
     (λ apart. skip x y (not (is_in y gone)) (without gone ys) apart ∙ rest ∙ sym (times-tail x y ys apart))
     (cases_eq x y)
 
-part : (x : ℕ) (b : Bool) (xs : List ℕ) → times x (cond b xs []) ≤ times x xs
+-- a list that is there or not has a row no more often than the list
+pub part : (x : ℕ) (b : Bool) (xs : List ℕ) → times x (cond b xs []) ≤ times x xs
 part x true xs = omega arith
 part x false xs = omega arith
 
@@ -66,21 +72,19 @@ times-rows_in-batch_of x n [] = refl
 times-rows_in-batch_of x n (y ∷ ys) = omega (arith, times-append x (y ∷ ys) [])
 
 pub times-late-batch_of : (x m n : ℕ) (xs : List ℕ) → times x (late m (batch_of n xs)) ≡ times x (cond (leb m n) xs [])
-times-late-batch_of x m n [] = either (leb m n)
-  where
-    either : (b : Bool) → times x [] ≡ times x (cond b [] [])
-    either true = refl
-    either false = refl
+times-late-batch_of x m n [] = omega (arith, part x (leb m n) [])
 times-late-batch_of x m n (y ∷ ys) = omega (arith, times-append x (cond (leb m n) (y ∷ ys) []) [])
 
 pub versions_of-batch_of : (b n : ℕ) (xs : List ℕ) → In b (versions_of (batch_of n xs)) → b ≡ n
 versions_of-batch_of b n [] here = absurd (omega arith)
 versions_of-batch_of b n (y ∷ ys) here = ⊎_elim (λ e. e) (λ none. absurd (omega arith)) (in_cases b n [] here)
 
-not_in_one : (x r : ℕ) → x ≢ r → times x (r ∷ []) ≡ 0
+-- no other row stands in a list of one row
+pub not_in_one : (x r : ℕ) → x ≢ r → times x (r ∷ []) ≡ 0
 not_in_one x r apart = times-tail x r [] apart
 
-cond-times : (x : ℕ) (b : Bool) (xs ys : List ℕ) → times x xs ≡ times x ys → times x (cond b xs []) ≡ times x (cond b ys [])
+-- equal counts stay equal where both lists are there or not
+pub cond-times : (x : ℕ) (b : Bool) (xs ys : List ℕ) → times x xs ≡ times x ys → times x (cond b xs []) ≡ times x (cond b ys [])
 cond-times x true xs ys e = e
 cond-times x false xs ys e = refl
 
@@ -110,11 +114,7 @@ versions_of-without_row b r (x ∷ xs) here =
     ⊎_elim
     (λ first. let e = versions_of-batch_of b x.0 (without (r ∷ []) x.1) first in subst (λ (y : ℕ). In b (y ∷ versions_of xs)) e (in_head b (versions_of xs)))
     (λ later. in_tail b x.0 (versions_of xs) (versions_of-without_row b r xs later))
-    (split (times b (versions_of (batch_of x.0 (without (r ∷ []) x.1)))) (times b (versions_of (without_row r xs))) (omega (arith, times-versions_of-append b (batch_of x.0 (without (r ∷ []) x.1)) (without_row r xs))))
-  where
-    split : (m n : ℕ) → 0 < m + n → (0 < m) ⊎ (0 < n)
-    split zero n some_there = inr (omega arith)
-    split (suc m) n some_there = inl (omega arith)
+    (one_of_two (times b (versions_of (batch_of x.0 (without (r ∷ []) x.1)))) (times b (versions_of (without_row r xs))) (omega (arith, times-versions_of-append b (batch_of x.0 (without (r ∷ []) x.1)) (without_row r xs))))
 
 -- a row with a cleared batch is retired
 pub cleared_there : (r : ℕ) (least : Option ℕ) (bs : List Batch) → list_any (λ b. is_in r b.1 && clears least b.0) bs ≡ true → In r (rows_in bs)

@@ -36,7 +36,12 @@ total-set f [] i a b at = absurd (some-ne-none a (sym at))
 total-set f (x ∷ xs) zero a b at = let same : f x ≡ f a = ap f (some-injective x a at) in omega arith
 total-set f (x ∷ xs) (suc i) a b at = let rest = total-set f xs i a b at in omega arith
 
--- a sum over a longer list, and over a list of which one element is known
+-- a sum over two lists is the sum over both
+pub total-append : {A : Type 0} (f : A → ℕ) (l m : List A) → total f (l ++ m) ≡ total f l + total f m
+total-append f [] m = omega arith
+total-append f (x ∷ xs) m = let rest = total-append f xs m in omega arith
+
+-- an element of a list is at most the sum
 pub total-le : {A : Type 0} (f : A → ℕ) (l : List A) (i : ℕ) (a : A) → get_elem? l i ≡ some a → f a ≤ total f l
 total-le f [] i a at = absurd (some-ne-none a (sym at))
 total-le f (x ∷ xs) zero a at = let same : f x ≡ f a = ap f (some-injective x a at) in omega arith

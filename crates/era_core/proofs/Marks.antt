@@ -29,13 +29,13 @@ different_from_once : (xs : List ℕ) → ((x : ℕ) → times x xs ≤ 1) → a
 different_from_once xs once = list_all-from (λ x. eqb (times x xs) 1) xs (λ x here. eq-eqb (times x xs) 1 (let most = once x in omega arith))
 
 -- a list with one more row
-times-push_other : (x y : ℕ) (xs : List ℕ) → x ≢ y → times x (xs ++ y ∷ []) ≡ times x xs
+pub times-push_other : (x y : ℕ) (xs : List ℕ) → x ≢ y → times x (xs ++ y ∷ []) ≡ times x xs
 times-push_other x y xs apart = omega (arith, times-append x xs (y ∷ []), times-tail x y [] apart)
 
-is_in-push_same : (y : ℕ) (xs : List ℕ) → is_in y (xs ++ y ∷ []) ≡ true
+pub is_in-push_same : (y : ℕ) (xs : List ℕ) → is_in y (xs ++ y ∷ []) ≡ true
 is_in-push_same y xs = lt-ltb 0 (times y (xs ++ y ∷ [])) (omega (arith, times-append y xs (y ∷ []), times-head y []))
 
-is_in-push_other : (x y : ℕ) (xs : List ℕ) → x ≢ y → is_in x (xs ++ y ∷ []) ≡ is_in x xs
+pub is_in-push_other : (x y : ℕ) (xs : List ℕ) → x ≢ y → is_in x (xs ++ y ∷ []) ≡ is_in x xs
 is_in-push_other x y xs apart = ap (ltb 0) (times-push_other x y xs apart)
 
 -- one more row has its mark

@@ -10,7 +10,7 @@ use Rattle.era_core.specs.Sound.{Scans, IsKept, IsPinned, Fits, Sound}
 use Rattle.era_core.proofs.ListFacts.{times-append, total-le, total-set, total-le_total, at_set, at_push, at_below, at_within}
 use Rattle.era_core.proofs.WordFacts.{root_keeps_reservation, root_keeps_owner, root_keeps_cell}
 use Rattle.era_core.proofs.TreeFacts.{tree_stays, tree_root}
-use Rattle.era_core.proofs.BatchFacts.{times-without_gone, times-without_kept, times-late-append, times-rows_in-append, times-rows_in-batch_of, times-late-batch_of, times-versions_of-append, versions_of-batch_of}
+use Rattle.era_core.proofs.BatchFacts.{one_of_two, times-without_gone, times-without_kept, times-late-append, times-rows_in-append, times-rows_in-batch_of, times-late-batch_of, times-versions_of-append, versions_of-batch_of}
 use Rattle.era_core.proofs.NumberFacts.{apart_still, none_before}
 use Rattle.era_core.proofs.Stays.{IsShared, kept_shared}
 use Rattle.era_core.proofs.Keeps.{owned_most, owned_same}
@@ -166,12 +166,10 @@ module _ (passes rows : ℕ) where
     -- a batch of the new view is one of before, or the new one
     batch_cases : (b : ℕ) → In b (versions_of w.retired) → In b (versions_of v.retired) ⊎ (b ≡ n)
     batch_cases b here =
-        split (times b (versions_of v.retired)) (times b (versions_of (batch_of n (without new old)))) (omega (arith, times-versions_of-append b v.retired (batch_of n (without new old))))
-        (versions_of-batch_of b n (without new old))
-      where
-        split : (x y : ℕ) → 0 < x + y → (0 < y → b ≡ n) → (0 < x) ⊎ (b ≡ n)
-        split zero y there is = inr (is (omega arith))
-        split (suc x) y there is = inl (omega arith)
+        ⊎_elim
+        (λ was. inl was)
+        (λ added. inr (versions_of-batch_of b n (without new old) added))
+        (one_of_two (times b (versions_of v.retired)) (times b (versions_of (batch_of n (without new old)))) (omega (arith, times-versions_of-append b v.retired (batch_of n (without new old)))))
 
     fits_own : Fits passes rows us (set vs i w) ds w
     fits_own = record {

@@ -1,6 +1,6 @@
 //! The machine as it runs.
 
-ghost use Rattle.std.specs.Prelude.{◌≡◌, ℕ, ◌<◌, ◌≤◌, map, replicate, false, IfOk, OnOk, OnErr, IfErr, None};
+ghost use Rattle.std.specs.Prelude.{◌≡◌, ◌<◌, ◌≤◌, map, replicate, false, IfOk, OnOk, OnErr, IfErr, None};
 ghost use Rattle.era_core.specs.Words.{version, root_row, reservation, start_words};
 ghost use Rattle.era_core.specs.Machine.{start, start_views, start_copies, owner_of, cell_of, last_of, allows, after, play, copies, first_refused, IsSound};
 ghost use Rattle.era_core.specs.Refusals.{IsFirstRefused};

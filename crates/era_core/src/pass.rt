@@ -1,6 +1,6 @@
 //! The view of a pass, as it runs.
 
-ghost use Rattle.std.specs.Prelude.{◌≡◌, ◌/◌, ◌%◌, ◌^◌, ◌&&◌, ◌||◌, ◌==◌, ◌<◌, [], ◌∷◌, filter, not, length, nat_lt, is_none, is_some, is_ok, if◌then◌else◌};
+ghost use Rattle.std.specs.Prelude.{◌≡◌, ◌/◌, ◌%◌, ◌^◌, ◌&&◌, ◌||◌, ◌==◌, ◌<◌, [], ◌∷◌, length, nat_lt, is_none, is_some, is_ok, if◌then◌else◌};
 ghost use Rattle.std.specs.List.{list_any};
 ghost use Rattle.era_core.specs.Lists.{is_in, without};
 ghost use Rattle.era_core.specs.Views.{start_view, noting, pinning, looking, reading, taking, replacing, freeing, clears, without_row, lesser, reserved as named_by};

@@ -1,10 +1,13 @@
 -- What a publication leaves, by its answer.
-use Rattle.std.proofs.Common.{◌≡◌, ℕ, ◌+◌, ◌-◌, ◌^◌, ◌<◌, Bool, true, Some, refl, subst, List, [], ◌∷◌, ◌++◌, length, sym, ap, ◌∙◌, arith, length-append}
+use Rattle.std.proofs.Common.{◌≡◌, ℕ, ◌+◌, ◌-◌, ◌^◌, ◌<◌, Bool, true, Some, refl, subst, List, [], ◌∷◌, ◌++◌, length, sym, ap, ◌∙◌, arith, append-nil, length-append}
 use Rattle.std.specs.Prelude.{Result, Ok, Err, IfOk, IfErr, is_err}
 use Rattle.std.proofs.lemmas.Bool.{true≢false}
+use Rattle.era_core.specs.Lists.{without}
+use Rattle.era_core.specs.Words.{root_word}
+use Rattle.era_core.specs.Views.{batch_of}
 use Rattle.era_core.specs.Versions.{Copy}
 use Rattle.era_core.proofs.ListFacts.{at_end}
-use Rattle.era_rows.specs.Known.{Known, copy_known}
+use Rattle.era_rows.specs.Known.{Known, pinned_copy, copy_known}
 use Rattle.era_rows.specs.Lists.{add_entry}
 use Rattle.era_rows.specs.Passes.{HasRead, Publication}
 use Rattle.era_rows.specs.Plays.{Publishes}
@@ -12,6 +15,8 @@ use Rattle.era_rows.specs.Rule.{knowing}
 use Rattle.era_rows.specs.declared.views.Knows.{Knows}
 use Rattle.era_rows.specs.declared.refusal.PublishRefusal.{PublishRefusal}
 use Rattle.era_rows.specs.declared.refusal.PublishRefusal.TheVariants.{Beaten, Spent}
+use Rattle.era_one_row.specs.Ready.{GoesOn}
+use Rattle.era_one_row.proofs.GoingOn.{goes_twice, read_goes}
 use mathlib.Core.Option.{some}
 use lib.ListN.{get_elem?}
 
@@ -66,6 +71,27 @@ module _ {E : Type 0} (caller stamp : E → ℕ) (accepted : ℕ → E → Bool)
       let version = lost.1.1 in let all = lost.1.2.2.learns.seen_all in
       (omega arith, omega arith)
 
-  -- only the last version of all is spent
-  pub is_spent : (answer : Result ℕ PublishRefusal) → Ends answer → answer ≡ Err Spent → n ≡ 2 ^ 40 - 1
-  is_spent answer done is = let spent : Ends (Err Spent) = subst Ends is done in spent.0
+  -- only the last version of all is spent, and the pass has seen what it had
+  pub is_spent : (answer : Result ℕ PublishRefusal) → Ends answer → answer ≡ Err Spent → (n ≡ 2 ^ 40 - 1) × (after.seen ≡ before.seen)
+  is_spent answer done is = let spent : Ends (Err Spent) = subst Ends is done in (spent.0, ap (λ (k : Knows E). k.seen) spent.1)
+
+  -- the pass knows what it knew, and its last pin is the one that it was
+  pub goes_on : (answer : Result ℕ PublishRefusal) → Ends answer → GoesOn before.view after.view
+  goes_on (Ok v) done =
+      let mid = done.2.0 in
+      goes_twice before.view mid after.view (read_goes before.view mid done.2.1) (record {
+        looked = ((0, root_word n p) ∷ [], sym (ap (λ (k : Knows E). k.view.looks) done.2.2.now));
+        kept = (batch_of n (without (copy_known mid q).rows (pinned_copy mid).rows), sym (ap (λ (k : Knows E). k.view.core.retired) done.2.2.now));
+      })
+  goes_on (Err (Beaten v)) done =
+      let mid = done.1.2.0 in
+      goes_twice before.view mid after.view (read_goes before.view mid done.1.2.1) (record {
+        looked = ((0, done.1.0) ∷ [], sym (ap (λ (k : Known). k.looks) done.1.2.2.view_is));
+        kept = ([], append-nil mid.core.retired ∙ sym (ap (λ (k : Known). k.core.retired) done.1.2.2.view_is));
+      })
+  goes_on (Err Spent) done = subst (λ (k : Knows E). GoesOn before.view k.view) (sym done.1) (record { looked = ([], append-nil before.view.looks); kept = ([], append-nil before.view.core.retired) })
+
+  pub pin_is_same : (answer : Result ℕ PublishRefusal) → Ends answer → after.view.since ≡ before.view.since
+  pin_is_same (Ok v) done = ap (λ (k : Knows E). k.view.since) done.2.2.now ∙ ap (λ (k : Known). k.since) done.2.1.now
+  pin_is_same (Err (Beaten v)) done = ap (λ (k : Known). k.since) done.1.2.2.view_is ∙ ap (λ (k : Known). k.since) done.1.2.1.now
+  pin_is_same (Err Spent) done = ap (λ (k : Knows E). k.view.since) done.1

@@ -2,3 +2,4 @@ pub mod Replacing
 pub mod Preparing
 pub mod Finishing
 pub mod Starting
+pub mod GoingOn

@@ -1,10 +1,10 @@
 -- What a pass of one shared row is between the parts of a replacement.
-use Rattle.std.specs.Prelude.{◌≡◌, ℕ, ◌^◌, ◌<◌, Some, None, List, [], ◌∷◌}
+use Rattle.std.specs.Prelude.{◌≡◌, ℕ, ◌/◌, ◌^◌, ◌<◌, ◌≤◌, Some, None, List, [], ◌∷◌, drop, length}
 use Rattle.era_core.specs.Lists.{times, In}
 use Rattle.era_core.specs.Versions.{Copy, look_up}
-use Rattle.era_rows.specs.Known.{pinned_copy, known_words}
-use Rattle.era_rows.specs.Lists.{add_entry}
-use Rattle.era_rows.specs.Passes.{IsPassOf, known_of, marked_of, work_of}
+use Rattle.era_rows.specs.Known.{Known, Look, pinned_copy, known_words}
+use Rattle.era_rows.specs.Lists.{IsPrefix, add_entry}
+use Rattle.era_rows.specs.Passes.{AreTaken, IsPassOf, known_of, seen_of, marked_of, work_of}
 use Rattle.era_rows.specs.declared.pass.Pass.{Pass}
 use Rattle.era_rows.specs.declared.rows.Rows.{Rows}
 use Rattle.era_rows.specs.declared.law.Law.{Ghosts}
@@ -24,11 +24,38 @@ lists_after (Beaten v) number lists = lists
 lists_after Full number lists = lists
 lists_after Spent number lists = lists
 
+-- what a call found, where this was known before and that after it
+abbrev pub new_looks : Known → Known → List Look
+new_looks before after = drop (length before.looks) after.looks
+
+-- what was found before is still known, and the batches of before are the first ones
+pub record GoesOn (before after : Known) : Type 0 where
+  pub looked : IsPrefix before.looks after.looks
+  pub kept : IsPrefix before.core.retired after.core.retired
+
+-- the last pin was in this call, and found version n
+pub record HasPinned (n : ℕ) (before after : Known) : Type 0 where
+  pub word : ℕ
+  pub version : word / 2 ^ 24 ≡ n
+  pub in_call : length before.looks ≤ after.since
+  pub found : get_elem? after.looks after.since ≡ some (0, word)
+
 module _ {L E : Type 0} {G : Ghosts L E} where
+  -- the call found an owner in each row
+  abbrev pub FoundFull : Rows L E → Pass L E G → Pass L E G → Type 0
+  FoundFull r p q = AreTaken r.passes r.rows 0 r.rows (new_looks (known_of p) (known_of q))
+
+  -- version v is the last one that the pass knows, and later than the one that it pinned in this call
+  pub record IsBeaten (v : ℕ) (p q : Pass L E G) : Type 0 where
+    pub current : v ≡ length (seen_of q)
+    pub pin : ℕ
+    pub pinned : HasPinned pin (known_of p) (known_of q)
+    pub later : pin < v
+
   -- the pass has pinned nothing and marked nothing
   pub record IsAtRest (r : Rows L E) (p : Pass L E G) : Type 0 where
     pub is_pass : IsPassOf r p
-    pub loose : (known_of p).core.pinned ≡ None
+    pub unpinned : (known_of p).core.pinned ≡ None
     pub no_marks : marked_of p ≡ []
 
   -- and its work list is empty
@@ -36,10 +63,11 @@ module _ {L E : Type 0} {G : Ghosts L E} where
     pub at_rest : IsAtRest r p
     pub no_work : work_of p ≡ []
 
-  -- it has pinned version n, which is one row
+  -- it has pinned version n, the last one that it knows, which is one row
   pub record Reads (r : Rows L E) (n root : ℕ) (p : Pass L E G) : Type 0 where
     pub is_pass : IsPassOf r p
     pub low : n < 2 ^ 40
+    pub current : length (seen_of p) ≡ n
     pub pinned : (known_of p).core.pinned ≡ Some (n, root)
     pub alone : (pinned_copy (known_of p)).rows ≡ root ∷ []
     pub no_marks : marked_of p ≡ []
@@ -48,6 +76,7 @@ module _ {L E : Type 0} {G : Ghosts L E} where
   pub record IsReady (r : Rows L E) (n root row : ℕ) (p : Pass L E G) : Type 0 where
     pub is_pass : IsPassOf r p
     pub low : n < 2 ^ 40
+    pub current : length (seen_of p) ≡ n
     pub pinned : (known_of p).core.pinned ≡ Some (n, root)
     pub alone : (pinned_copy (known_of p)).rows ≡ root ∷ []
     pub fresh : In row (known_of p).core.fresh

@@ -9,7 +9,7 @@ pub struct Stamped {
     pub stamp: u64,
 }
 
-/// Each entry is accepted.
+/// Each entry is accepted. A lawful tree is one row without links, and it stands for any entries.
 pub struct OneRow;
 
 impl Law for OneRow {

@@ -10,6 +10,15 @@ use std::alloc::{AllocError, Global};
 use std::thread;
 use std::thread::Threads;
 
+// Rows with one pass.
+fn start_one(alloc: Global) -> Result<(Rows<OneRow>, Pass<OneRow>), AllocError>
+    ensures { IfOk result (λ t. IsIdle t.0 t.1) }
+{
+    let (rows, mut passes): (Rows<OneRow>, Vec<Pass<OneRow>>) = Rows::start(alloc, 0, 64, 1)?;
+    let pass = passes.remove(0);
+    Ok((rows, pass))
+}
+
 // Rows with two passes.
 fn start_two(alloc: Global) -> Result<(Rows<OneRow>, Pass<OneRow>, Pass<OneRow>), AllocError>
     ensures { IfOk result (λ t. IsIdle t.0 t.1 × IsIdle t.0 t.2) }
@@ -57,7 +66,7 @@ fn take_many(
 
 #[test]
 fn takes_each_row_once(rt: HostRuntime) -> Result<(), AllocError> {
-    let (rows, mut a, _) = start_two(rt.alloc())?;
+    let (rows, mut a) = start_one(rt.alloc())?;
     let pass = &mut a;
     assert!(&rt;
         take_many(rt.alloc(), &rows, pass, 63)? && rows.fresh(pass) == 63,
@@ -194,6 +203,7 @@ fn two_threads_publish_and_read(rt: HostRuntime) -> Result<(), AllocError> {
         u64::from(first.0) + u64::from(second.0) == version,
         "each replacement made a version"
     );
+    assert!(&rt; version > 0, "a replacement was done");
     assert!(&rt;
         word == version,
         "the last word is the number of the last version"

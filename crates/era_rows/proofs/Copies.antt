@@ -1,12 +1,13 @@
 -- The copy of the version that a pass has pinned.
 use Rattle.std.proofs.Common.{◌≡◌, ℕ, zero, suc, ◌<◌, Option, Some, None, List, [], ◌∷◌, ◌++◌, length, refl, sym, ap, ◌∙◌, arith}
 use Rattle.std.specs.Prelude.{slice_get, unwrap_or}
-use Rattle.era_core.specs.Lists.{In}
+use Rattle.era_core.specs.Lists.{times, In}
 use Rattle.era_core.specs.Versions.{Cell, Copy}
 use Rattle.era_core.proofs.Readers.{slice_get_at}
 use Rattle.era_core.proofs.ListFacts.{at_below, at_longer}
 use Rattle.era_rows.specs.Trees.{no_copy}
 use Rattle.era_rows.specs.Known.{Known, copy_of, pinned_copy}
+use Rattle.era_rows.specs.Held.{HoldsTree}
 use mathlib.Core.Option.{some, some-ne-none}
 use lib.ListN.{get_elem?}
 
@@ -17,6 +18,22 @@ copy_is pinned copies n p c is_pinned there =
 
 pub copy_none : (pinned : Option (ℕ × ℕ)) (copies : List Copy) → pinned ≡ None → copy_of pinned copies ≡ no_copy
 copy_none pinned copies none = ap (λ pin. copy_of pin copies) none
+
+-- a pass that has pinned nothing holds no tree
+pub no_tree : (k : Known) → k.core.pinned ≡ None → HoldsTree k
+no_tree k loose =
+    let none = copy_none k.core.pinned k.copies loose in
+    record {
+      is_tree = record {
+        once = λ r. (let e = ap (λ c. times r c.rows) none in omega arith);
+        few = λ r here. absurd (let e = ap (λ c. times r c.rows) none in omega arith);
+        covered = λ r here. absurd (let e = ap (λ c. times r c.rows) none in omega arith);
+        linked = λ r x here. absurd (let e = ap (λ c. times r c.rows) none in omega arith);
+      };
+      within = λ i c there. absurd (some-ne-none c (sym (ap (λ d. get_elem? d.cells i) (sym none) ∙ there)));
+      inside = λ r here. absurd (let e = ap (λ c. times r c.rows) none in omega arith);
+      unread = λ r here. ap (λ c. times r c.rows) none;
+    }
 
 -- it stays the same where the pass comes to know more versions
 pub copy_longer : (pinned : Option (ℕ × ℕ)) (copies more : List Copy) → ((n p : ℕ) → pinned ≡ Some (n, p) → n < length copies) → copy_of pinned (copies ++ more) ≡ copy_of pinned copies

@@ -1,12 +1,13 @@
 -- Flags on the fresh rows that a walk has not reached.
-use Rattle.std.proofs.Common.{◌≡◌, ◌≢◌, ℕ, ◌<◌, ◌≤◌, ⊎_elim, Bool, true, false, not, cond, ltb, List, [], ◌∷◌, ◌++◌, length, get_or, set, filter, refl, sym, ap, subst, ◌∙◌, arith, lt-ltb, le-ltb, get_or-set_same, get_or-set_other}
+use Rattle.std.proofs.Common.{◌≡◌, ℕ, ◌<◌, ◌≤◌, ⊎_elim, Bool, true, false, not, cond, ltb, List, [], ◌∷◌, ◌++◌, length, get_or, set, filter, refl, sym, ap, subst, ◌∙◌, arith, lt-ltb, le-ltb, get_or-set_same, get_or-set_other}
 use Rattle.std.specs.Prelude.{◌&&◌}
 use Rattle.std.proofs.lemmas.Bool.{cases_eq, cases_lt, and_parts, ltb-true}
 use Rattle.std.proofs.lemmas.List.{length-set, set-get_or, get_or_past}
 use Rattle.std.proofs.Math.Bool.{and-true, and-false}
 use Rattle.era_core.specs.Lists.{times, In, is_in, without}
-use Rattle.era_core.proofs.ListFacts.{times-append, times-head, times-tail, in_head, in_tail}
+use Rattle.era_core.proofs.ListFacts.{times-append, times-head, in_head, in_tail}
 use Rattle.era_core.proofs.BatchFacts.{times-without_gone, times-without_kept}
+use Rattle.era_core.proofs.Marks.{times-push_other, is_in-push_same, is_in-push_other}
 use Rattle.era_rows.specs.Reach.{IsReached}
 use Rattle.era_rows.proofs.Moves.{not_in}
 use Rattle.era_rows.proofs.Room.{AreBelow, different-push, length-below, room}
@@ -22,16 +23,6 @@ not_in_list x xs none = le-ltb 0 (times x xs) (omega arith)
 -- what the test finds stands in the list
 pub from_in : (x : ℕ) (xs : List ℕ) → is_in x xs ≡ true → In x xs
 from_in x xs here = ltb-true 0 (times x xs) here
-
--- a list with one more row
-times-push_other : (x y : ℕ) (xs : List ℕ) → x ≢ y → times x (xs ++ y ∷ []) ≡ times x xs
-times-push_other x y xs apart = omega (arith, times-append x xs (y ∷ []), times-tail x y [] apart)
-
-is_in-push_same : (y : ℕ) (xs : List ℕ) → is_in y (xs ++ y ∷ []) ≡ true
-is_in-push_same y xs = in_list y (xs ++ y ∷ []) (omega (arith, times-append y xs (y ∷ []), times-head y []))
-
-is_in-push_other : (x y : ℕ) (xs : List ℕ) → x ≢ y → is_in x (xs ++ y ∷ []) ≡ is_in x xs
-is_in-push_other x y xs apart = ap (ltb 0) (times-push_other x y xs apart)
 
 -- a row stands in what is left of a list where it stands in the list and is none of those that are gone
 pub is_in-without : (x : ℕ) (gone xs : List ℕ) → is_in x (without gone xs) ≡ (is_in x xs && not (is_in x gone))

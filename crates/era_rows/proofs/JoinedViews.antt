@@ -8,15 +8,10 @@ use Rattle.era_core.specs.Views.{View, rows_in, versions_of, late, held}
 use Rattle.era_core.specs.Versions.{Copy}
 use Rattle.era_core.specs.Sound.{Scans, IsKept, Fits, Sound}
 use Rattle.era_core.proofs.ListFacts.{times-append, total-set, at_set, set_here, set_else}
-use Rattle.era_core.proofs.BatchFacts.{times-rows_in-append, times-late-append, times-versions_of-append}
+use Rattle.era_core.proofs.BatchFacts.{one_of_two, times-rows_in-append, times-late-append, times-versions_of-append}
 use Rattle.era_rows.specs.Known.{joining, spent_view}
 use mathlib.Core.Option.{some, some-injective}
 use lib.ListN.{get_elem?}
-
--- of two numbers whose sum is positive, one is
-pub one_of_two : (m n : ℕ) → 0 < m + n → (0 < m) ⊎ (0 < n)
-one_of_two zero n some_there = inr (omega arith)
-one_of_two (suc m) n some_there = inl (omega arith)
 
 module _ (passes rows : ℕ) (ws : List ℕ) (vs : List View) (cs : List Copy) (sound : Sound passes rows ws vs cs) (i k : ℕ) (u : View) (at : get_elem? vs i ≡ some u) (mine : u.number ≡ Some k)
     (j m : ℕ) (v : View) (there : get_elem? vs j ≡ some v) (theirs : v.number ≡ Some m) (other : j ≢ i)

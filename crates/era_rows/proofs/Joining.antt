@@ -1,6 +1,7 @@
 -- A pass that takes over what another knows and has keeps the rule.
 use Rattle.std.proofs.Common.{◌≡◌, ◌≢◌, ℕ, zero, suc, ◌+◌, ◌-◌, ◌<◌, ◌≤◌, ◌⊎◌, ⊎_elim, inl, inr, Bool, cond, lt-ltb, le-ltb, Some, None, List, [], ◌∷◌, ◌++◌, length, map, set, refl, sym, ap, subst, ◌∙◌, arith}
 use Rattle.std.proofs.lemmas.Bool.{cases_lt}
+use Rattle.std.proofs.lemmas.List.{map-append}
 use Rattle.std.proofs.lemmas.Option.{same_Some, none-some}
 use Rattle.atomic_table.specs.Table.{State, Joins}
 use Rattle.atomic_table.proofs.Lists.{at_longer}
@@ -16,6 +17,7 @@ use Rattle.era_rows.specs.Rule.{core_of, callers_of, both_knows, spent_knows, Ar
 use Rattle.era_rows.specs.declared.views.Knows.{Knows}
 use Rattle.era_rows.specs.declared.sizes.Sizes.{Sizes}
 use Rattle.era_rows.proofs.Seats.{core_at, core_set}
+use Rattle.era_rows.proofs.Learning.{more_seen}
 use Rattle.era_rows.proofs.JoinedViews.{joins}
 use mathlib.Core.Option.{some}
 use lib.ListN.{get_elem?}
@@ -59,24 +61,8 @@ longer_paired xs zs ys us first second =
     (longer_is ys us))
     (longer_is xs zs)
 
-map_both : {A B : Type 0} (f : A → B) (xs ys : List A) → map f (xs ++ ys) ≡ map f xs ++ map f ys
-map_both f [] ys = refl
-map_both f (x ∷ xs) ys = ap (λ zs. f x ∷ zs) (map_both f xs ys)
-
 module _ {E : Type 0} (caller stamp : E → ℕ) (accepted : ℕ → E → Bool) (lawful : ℕ → Copy → Type 0) (stands : ℕ → Copy → List E → Type 0)
     (right : ℕ → E → List E → Type 0) (key : Sizes) where
-  -- a list stays a caller's where more of the accepted entries have been seen
-  pub list_known : (log : List E) (seen more c : ℕ) (es : List E) → seen ≤ more → IsListOf caller stamp accepted right key.shape log seen c es
-      → IsListOf caller stamp accepted right key.shape log more c es
-  list_known log seen more c es most list = record {
-    named = list.named;
-    told = list.told;
-    known = λ n e there. (let low = list.known n e there in omega arith);
-    judged = list.judged;
-    ordered = list.ordered;
-    rising = list.rising;
-  }
-
   module _ (ws : List ℕ) (vs : List (Knows E)) (kept : Kept caller stamp accepted lawful stands right key ws vs) (i k : ℕ) (u : Knows E) (at : get_elem? vs i ≡ some u)
       (mine : u.view.core.number ≡ Some k) (j m : ℕ) (v : Knows E) (there : get_elem? vs j ≡ some v) (theirs : v.view.core.number ≡ Some m) (other : j ≢ i)
       (u_loose : u.view.core.pinned ≡ None) (v_loose : v.view.core.pinned ≡ None) (u_calm : u.view.core.noted ≡ None) (v_calm : v.view.core.noted ≡ None) where
@@ -107,8 +93,8 @@ module _ {E : Type 0} (caller stamp : E → ℕ) (accepted : ℕ → E → Bool)
     held_lists : (n c : ℕ) (es : List E) → get_elem? (u.lists ++ v.lists) n ≡ some (c, es) → IsListOf caller stamp accepted right key.shape kept.log (length (longer u.seen v.seen)) c es
     held_lists n c es here =
         ⊎_elim
-        (λ mine_here. list_known kept.log (length u.seen) (length (longer u.seen v.seen)) c es (longer_left u.seen v.seen) (first.hears.held n c es mine_here))
-        (λ theirs_here. list_known kept.log (length v.seen) (length (longer u.seen v.seen)) c es (longer_right u.seen v.seen) (second.hears.held theirs_here.0 c es theirs_here.1))
+        (λ mine_here. more_seen caller stamp accepted right key.shape kept.log (length u.seen) (length (longer u.seen v.seen)) c es (longer_left u.seen v.seen) (first.hears.held n c es mine_here))
+        (λ theirs_here. more_seen caller stamp accepted right key.shape kept.log (length v.seen) (length (longer u.seen v.seen)) c es (longer_right u.seen v.seen) (second.hears.held theirs_here.0 c es theirs_here.1))
         (at_either u.lists v.lists n (c, es) here)
 
     both_written : AreWritten key ws (u.view.core.fresh ++ v.view.core.fresh) (u.view.written ++ v.view.written)
@@ -156,7 +142,7 @@ module _ {E : Type 0} (caller stamp : E → ℕ) (accepted : ℕ → E → Bool)
           let f : Knows E → ℕ = λ x. times c (callers_of x) in
           let one = total-set f vs i u both at in
           let two = total-set f half j v spent still_there in
-          let sum : f both ≡ f u + f v = ap (times c) (map_both (λ (list : ℕ × List E). list.0) u.lists v.lists) ∙ times-append c (callers_of u) (callers_of v) in
+          let sum : f both ≡ f u + f v = ap (times c) (map-append (λ (list : ℕ × List E). list.0) u.lists v.lists) ∙ times-append c (callers_of u) (callers_of v) in
           let none : f spent ≡ 0 = refl in
           let was = kept.once c in omega arith;
       each = λ a n x here is.

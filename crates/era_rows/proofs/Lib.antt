@@ -19,6 +19,7 @@ pub mod Joining
 pub mod Retired
 pub mod Looking
 pub mod Tidying
+pub mod Freeing
 pub mod Trees
 pub mod Publishing
 pub mod Flags

@@ -6,7 +6,6 @@ use Rattle.std.proofs.lemmas.List.{append-nil, length-append, take_all, take-app
 use Rattle.atomic_table.proofs.Lists.{at_snoc}
 use Rattle.era_core.specs.Lists.{times, In, is_in, tree}
 use Rattle.era_core.specs.Words.{run_of, cell_at}
-use Rattle.era_core.specs.Views.{rows_in}
 use Rattle.era_core.specs.Versions.{Cell, look_up, known, known_links, Covers}
 use Rattle.era_core.proofs.ListFacts.{times-append, in_cases, in_head, in_tail, in-append_left, in-append_right}
 use Rattle.era_core.proofs.CopyFacts.{at_append}
@@ -21,6 +20,7 @@ use Rattle.era_rows.specs.Rule.{knowing}
 use Rattle.era_rows.specs.Passes.{HasRead}
 use Rattle.era_rows.specs.Reach.{IsReached, AddsLinks, ReachesTree}
 use Rattle.era_rows.specs.declared.views.Knows.{Knows}
+use Rattle.era_rows.proofs.Holding.{fresh_inside}
 use Rattle.era_rows.proofs.Trees.{known_links-of_rows, covers-of_rows}
 use Rattle.era_rows.proofs.Flags.{in_list, not_in_list, row_reached, fresh_reached}
 use mathlib.Core.Option.{some, some-ne-none}
@@ -311,11 +311,7 @@ module _ {E : Type 0} where
   same_knows a b c v first second =
       second ∙ ap (knowing b.seen b.lists) (ap (λ (x : Knows E). x.view) (sym second)) ∙ ap (λ (x : Knows E). knowing x.seen x.lists c.view) first
 
--- fresh rows are rows
-pub fresh_inside : (k : Known) → HoldsRows k → (x : ℕ) → In x k.core.fresh → x < k.rows
-fresh_inside k holds x here = holds.inside x (in-append_left x k.core.fresh (rows_in k.core.retired) here)
-
--- and so are those of the new tree
+-- the rows of the new tree are rows
 pub new_inside : (k : Known) (q : ℕ) → HoldsRows k → HoldsTree k → ((x : ℕ) → In x (copy_known k q).rows → In x k.core.fresh ⊎ In x (pinned_copy k).rows)
     → (x : ℕ) → In x (copy_known k q).rows → x < k.rows
 new_inside k q holds pinned parts x here =

@@ -15,7 +15,7 @@ use Rattle.era_rows.specs.declared.sizes.Sizes.{Sizes}
 use Rattle.era_rows.proofs.Seats.{prefix_at}
 use Rattle.era_rows.proofs.Copies.{pinned_cell}
 use Rattle.era_rows.proofs.Moves as moved
-use Rattle.era_rows.proofs.Moves.{Keeps, cores, here, agrees}
+use Rattle.era_rows.proofs.Moves.{Keeps, here, agrees}
 use Rattle.era_rows.proofs.Learning.{having_pinned, pinned_kept, pinned_told}
 use Rattle.era_rows.proofs.Allowing.{Held}
 use mathlib.Core.Option.{some, none}

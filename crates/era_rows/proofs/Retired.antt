@@ -7,11 +7,10 @@ use Rattle.std.proofs.lemmas.Bool.{cases_eq, or_left, or_right}
 use Rattle.std.proofs.lemmas.List.Sums.{sum_by-cons, sum_by-swap_remove}
 use Rattle.era_core.specs.Lists.{times, In, is_in, total, without}
 use Rattle.era_core.specs.Views.{Batch, rows_in, batch_of, without_row, clears}
-use Rattle.era_core.proofs.ListFacts.{times-append, times-head, times-tail, in_head}
-use Rattle.era_core.proofs.BatchFacts.{times-without_kept, times-rows_in-row_gone}
+use Rattle.era_core.proofs.ListFacts.{times-append, times-head, in_head, total-append, total-le}
+use Rattle.era_core.proofs.BatchFacts.{one_of_two, times-without_kept, part, not_in_one, cond-times, times-rows_in-row_gone}
 use Rattle.era_rows.specs.Held.{rows_at, rows_of}
 use Rattle.era_rows.specs.Passes.{blocked}
-use Rattle.era_rows.proofs.JoinedViews.{one_of_two}
 use Rattle.era_rows.proofs.Joining.{at_either}
 use mathlib.Core.Option.{some, some-injective, some-ne-none}
 use lib.ListN.{get_elem?}
@@ -34,18 +33,9 @@ counted_by n x (p ∷ ps) = let rest = counted_by n x ps in let one = by_test (e
     by_test true = omega arith
     by_test false = omega arith
 
-total_append : {A : Type 0} (f : A → ℕ) (xs ys : List A) → total f (xs ++ ys) ≡ total f xs + total f ys
-total_append f [] ys = omega arith
-total_append f (x ∷ xs) ys = let rest = total_append f xs ys in omega arith
-
 total_sum : {A : Type 0} (f : A → ℕ) (xs : List A) → sum_by f xs ≡ total f xs
 total_sum f [] = refl
 total_sum f (x ∷ xs) = let rest = total_sum f xs in sum_by-cons f x xs ∙ ap (λ n. f x + n) rest
-
--- the rows of a version's batches, among those of all batches
-part : (x : ℕ) (b : Bool) (xs : List ℕ) → times x (cond b xs []) ≤ times x xs
-part x true xs = omega arith
-part x false xs = omega arith
 
 pub rows_of-append : (x n : ℕ) (xs ys : List Batch) → times x (rows_of n (xs ++ ys)) ≡ times x (rows_of n xs) + times x (rows_of n ys)
 rows_of-append x n [] ys = omega arith
@@ -54,11 +44,7 @@ rows_of-append x n (b ∷ xs) ys =
     omega (arith, rows_of-append x n xs ys, times-append x here (rows_of n (xs ++ ys)), times-append x here (rows_of n xs))
 
 rows_of-batch_of : (x m n : ℕ) (xs : List ℕ) → times x (rows_of m (batch_of n xs)) ≡ times x (cond (eqb n m) xs [])
-rows_of-batch_of x m n [] = either (eqb n m)
-  where
-    either : (b : Bool) → times x [] ≡ times x (cond b [] [])
-    either true = refl
-    either false = refl
+rows_of-batch_of x m n [] = omega (arith, part x (eqb n m) [])
 rows_of-batch_of x m n (y ∷ ys) = omega (arith, times-append x (cond (eqb n m) (y ∷ ys) []) [])
 
 rows_of-two : (x m n : ℕ) (bs : List Batch) → m ≢ n → times x (rows_of m bs) + times x (rows_of n bs) ≤ times x (rows_in bs)
@@ -92,13 +78,6 @@ rows_of-batch x (suc i) (c ∷ bs) b here =
     let rest = rows_of-batch x i bs b here in
     let all = times-append x (cond (eqb c.0 b.0) c.1 []) (rows_of b.0 bs) in omega arith
 
-not_in_one : (x r : ℕ) → x ≢ r → times x (r ∷ []) ≡ 0
-not_in_one x r apart = times-tail x r [] apart
-
-cond-times : (x : ℕ) (b : Bool) (xs ys : List ℕ) → times x xs ≡ times x ys → times x (cond b xs []) ≡ times x (cond b ys [])
-cond-times x true xs ys e = e
-cond-times x false xs ys e = refl
-
 rows_of-without_row : (x r n : ℕ) (bs : List Batch) → x ≢ r → times x (rows_of n (without_row r bs)) ≡ times x (rows_of n bs)
 rows_of-without_row x r n [] apart = refl
 rows_of-without_row x r n (b ∷ bs) apart =
@@ -113,15 +92,11 @@ rows_of-row_gone r n bs = omega (arith, rows_of-le r n (without_row r bs), times
 -- what is retired later comes behind both
 pub batched_append : (ps qs : List (ℕ × ℕ)) (bs cs : List Batch) → AreBatched ps bs → AreBatched qs cs → AreBatched (ps ++ qs) (bs ++ cs)
 batched_append ps qs bs cs first second n x =
-    omega (arith, counted_by n x (ps ++ qs), total_append (is_pair n x) ps qs, counted_by n x ps, counted_by n x qs, rows_of-append x n bs cs, first n x, second n x)
+    omega (arith, counted_by n x (ps ++ qs), total-append (is_pair n x) ps qs, counted_by n x ps, counted_by n x qs, rows_of-append x n bs cs, first n x, second n x)
 
 -- the pairs of one version with these rows
 marked_pairs : (m n x : ℕ) (marks : List ℕ) → total (is_pair m x) (map (λ (r : ℕ). (n, r)) marks) ≡ times x (cond (eqb n m) marks [])
-marked_pairs m n x [] = either (eqb n m)
-  where
-    either : (b : Bool) → times x [] ≡ times x (cond b [] [])
-    either true = refl
-    either false = refl
+marked_pairs m n x [] = omega (arith, part x (eqb n m) [])
 marked_pairs m n x (r ∷ rs) = let rest = marked_pairs m n x rs in rest_of (eqb n m) rest
   where
     rest_of : (b : Bool) → total (is_pair m x) (map (λ (s : ℕ). (n, s)) rs) ≡ times x (cond b rs [])
@@ -149,16 +124,10 @@ pair_other n x p apart = by_test (eqb p.0 n)
     by_test true = not_in_one x p.1 apart
     by_test false = refl
 
--- an element of the pairs is counted
-total_at : {A : Type 0} (f : A → ℕ) (xs : List A) (i : ℕ) (a : A) → get_elem? xs i ≡ some a → f a ≤ total f xs
-total_at f [] i a here = absurd (some-ne-none a (sym here))
-total_at f (x ∷ xs) zero a here = (let e : f x ≡ f a = ap f (some-injective x a here) in omega arith)
-total_at f (x ∷ xs) (suc i) a here = (let rest = total_at f xs i a here in omega arith)
-
 -- the row of a pair stands in a batch of the pair's version
 pub batched_in : (ps : List (ℕ × ℕ)) (bs : List Batch) (i n x : ℕ) → AreBatched ps bs → get_elem? ps i ≡ some (n, x) → In x (rows_of n bs)
 batched_in ps bs i n x batched here =
-    (let one = pair_here (n, x) in omega (arith, batched n x, counted_by n x ps, total_at (is_pair n x) ps i (n, x) here))
+    (let one = pair_here (n, x) in omega (arith, batched n x, counted_by n x ps, total-le (is_pair n x) ps i (n, x) here))
 
 -- a row that stands once, in a pair that is taken out, is taken out of its batch
 pub batched_less : (ps : List (ℕ × ℕ)) (bs : List Batch) (i : ℕ) (p : ℕ × ℕ) → i < length ps → get_or ps i p ≡ p → times p.1 (rows_in bs) ≤ 1
@@ -226,7 +195,7 @@ pairs_of-counted : (n x : ℕ) (bs : List Batch) → total (is_pair n x) (pairs_
 unfolding pairs_of
 pairs_of-counted n x [] = refl
 pairs_of-counted n x (b ∷ bs) =
-    omega (arith, total_append (is_pair n x) (map (λ (r : ℕ). (b.0, r)) b.1) (pairs_of bs), marked_pairs n b.0 x b.1, pairs_of-counted n x bs, times-append x (cond (eqb b.0 n) b.1 []) (rows_of n bs))
+    omega (arith, total-append (is_pair n x) (map (λ (r : ℕ). (b.0, r)) b.1) (pairs_of bs), marked_pairs n b.0 x b.1, pairs_of-counted n x bs, times-append x (cond (eqb b.0 n) b.1 []) (rows_of n bs))
 
 length-rows : (n : ℕ) (xs : List ℕ) → length {A = ℕ × ℕ} (map (λ (r : ℕ). (n, r)) xs) ≡ length xs
 length-rows n [] = refl

@@ -4,30 +4,22 @@ use Rattle.std.proofs.lemmas.Bool.{cases_eq, cases_lt}
 use Rattle.std.proofs.lemmas.Option.{same_Some, none-some}
 use Rattle.std.specs.Prelude.{unwrap_or}
 use Rattle.atomic_table.proofs.Lists.{at_snoc}
-use Rattle.era_core.specs.Lists.{times, total}
+use Rattle.era_core.specs.Lists.{times}
 use Rattle.era_core.specs.Words.{reservation}
 use Rattle.era_core.specs.Views.{View, start_view}
 use Rattle.era_core.specs.Versions.{Copy}
 use Rattle.era_core.specs.Sound.{Sound}
 use Rattle.era_core.specs.Machine.{start_views}
-use Rattle.era_core.proofs.ListFacts.{times-tail, times-head, total-set, at_set}
+use Rattle.era_core.proofs.ListFacts.{times-tail, times-head, total-append, total-set, at_set}
 use Rattle.era_rows.specs.Known.{next_number}
 use Rattle.era_rows.specs.Lists.{of_caller, IsListOf}
 use Rattle.era_rows.specs.Rule.{core_of, callers_of, left_knows, right_knows, Agrees, Kept}
 use Rattle.era_rows.specs.declared.views.Knows.{Knows}
 use Rattle.era_rows.specs.declared.sizes.Sizes.{Sizes}
-use Rattle.era_rows.proofs.Seats.{bit, core_at, none_kept}
+use Rattle.era_rows.proofs.Seats.{bit, core_at, at_behind, none_kept}
 use Rattle.era_rows.proofs.Opening.{no_entries}
 use mathlib.Core.Option.{some, some-injective, some-ne-none}
 use lib.ListN.{get_elem?}
-
-at_after : {A : Type 0} (xs rest : List A) (a : A) → get_elem? (xs ++ a ∷ rest) (length xs) ≡ some a
-at_after [] rest a = refl
-at_after (x ∷ xs) rest a = at_after xs rest a
-
-total_snoc : {A : Type 0} (f : A → ℕ) (xs : List A) (a : A) → total f (xs ++ a ∷ []) ≡ total f xs + f a
-total_snoc f [] a = omega arith
-total_snoc f (x ∷ xs) a = let rest = total_snoc f xs a in omega arith
 
 module _ {E : Type 0} where
   core_snoc : (vs : List (Knows E)) (w : Knows E) (rest : List View) → map core_of (vs ++ w ∷ []) ++ rest ≡ map core_of vs ++ core_of w ∷ rest
@@ -102,8 +94,9 @@ module _ {E : Type 0} (caller stamp : E → ℕ) (accepted : ℕ → E → Bool)
 
     idle_at : get_elem? cores (length (map core_of vs)) ≡ some (start_view made)
     idle_at =
-        ap (λ rest. get_elem? (map core_of vs ++ rest) (length (map core_of vs))) (next_idle made key.passes room)
-        ∙ at_after (map core_of vs) (start_views (made + 1) (key.passes - (made + 1))) (start_view made)
+        ap (get_elem? cores) (let e : length (map core_of vs) ≡ length (map core_of vs) + 0 = omega arith in e)
+        ∙ at_behind (map core_of vs) idle 0
+        ∙ ap (λ rest. get_elem? rest 0) (next_idle made key.passes room)
 
     -- a pass that has not begun has reserved nothing
     nothing_reserved : reservation key.passes key.rows ws made ≡ 0
@@ -187,7 +180,7 @@ module _ {E : Type 0} (caller stamp : E → ℕ) (accepted : ℕ → E → Bool)
           let own : times c (next_number k.view ∷ []) ≡ times c (made ∷ []) = ap (λ n. times c (n ∷ [])) next_is in
           let more = one_more c made in
           let was = kept.once c in
-          let sum = total_snoc f (set vs i left) next in omega arith;
+          let sum = total-append f (set vs i left) (next ∷ []) in omega arith;
       each = λ a m u there is.
           ⊎_elim
           (λ in_old. ⊎_elim

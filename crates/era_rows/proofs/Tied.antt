@@ -14,6 +14,8 @@ use Rattle.era_rows.specs.Plays.{IsUnused}
 use Rattle.era_rows.specs.Held.{HoldsTree, HasRoom, IsTied}
 use Rattle.era_rows.specs.Passes.{giving_back, started_known}
 use Rattle.era_rows.proofs.Seats.{at_filter}
+use Rattle.era_rows.proofs.Copies.{no_tree}
+use Rattle.era_rows.proofs.Holding.{fresh_inside}
 use Rattle.era_rows.proofs.Moves.{not_in}
 use Rattle.era_rows.proofs.Room.{times-without_le, room}
 use mathlib.Core.Option.{some, some-injective, some-ne-none}
@@ -95,13 +97,13 @@ module _ {k : Known} {number next : ℕ} {pinned : Option (ℕ × ℕ)} {fresh :
 
   -- a fresh row is a row
   pub tied_row : (r : ℕ) → In r k.core.fresh → r < k.rows
-  tied_row r here = t.holds.inside r (in-append_left r k.core.fresh (rows_in k.core.retired) here)
+  tied_row = fresh_inside k t.holds
 
   -- a row that the pass does not hold has room among its fresh rows
   pub tied_room : (r : ℕ) → r < k.rows → IsUnused r k → length fresh < k.rows
   tied_room r row unread =
       let parts : (x : ℕ) → times x k.core.fresh ≤ times x (held k.core) = λ x. let both = times-append x k.core.fresh (rows_in k.core.retired) in omega arith in
-      let few = room k.rows r k.core.fresh (λ x. (let fewer = parts x in let one = t.holds.different x in omega arith)) (λ x here. t.holds.inside x (let fewer = parts x in omega arith))
+      let few = room k.rows r k.core.fresh (λ x. (let fewer = parts x in let one = t.holds.different x in omega arith)) tied_row
       (let fewer = parts r in let none = unread.not_held in omega arith) row in
       omega (arith, ap length t.fresh_are)
 
@@ -263,7 +265,7 @@ module _ {k : Known} {number next : ℕ} {pinned : Option (ℕ × ℕ)} {fresh :
     flagged = t.flagged;
     batched = t.batched;
     holds = record { different = t.holds.different; inside = t.holds.inside };
-    tree = no_tree;
+    tree = no_tree (leaving k) refl;
     marks_different = λ r. omega arith;
     marks_inside = λ r here. absurd (omega arith);
     knows_pinned = λ n p e. absurd (none-some (n, p) e);
@@ -273,19 +275,6 @@ module _ {k : Known} {number next : ℕ} {pinned : Option (ℕ × ℕ)} {fresh :
     pinned_low = λ n p e. absurd (none-some (n, p) e);
     written_fresh = t.written_fresh;
   }
-    where
-      no_tree : HoldsTree (leaving k)
-      no_tree = record {
-        is_tree = record {
-          once = λ r. omega arith;
-          few = λ r here. absurd (omega arith);
-          covered = λ r here. absurd (omega arith);
-          linked = λ r x here. absurd (omega arith);
-        };
-        within = λ i c there. absurd (some-ne-none c (sym there));
-        inside = λ r here. absurd (omega arith);
-        unread = λ r here. refl;
-      }
 
   -- Pin: the reserved version was noted and is so no more
   pub tied_pinned : (n w v : ℕ) (copies : List Copy) → HoldsTree (pinning_root w copies (reserving n (noting_root v k))) → w / 2 ^ 24 < length copies → w < 2 ^ 64
@@ -329,7 +318,7 @@ tied_started shape rows passes made number loose some_pass few all = record {
   flagged = λ r inside. ap (λ xs. slice_index_or xs r false) all ∙ get_or-replicate rows r false false inside;
   batched = λ n x. refl;
   holds = record { different = λ r. omega arith; inside = λ r here. absurd (omega arith) };
-  tree = no_tree;
+  tree = no_tree (started_known shape rows passes made number) refl;
   marks_different = λ r. omega arith;
   marks_inside = λ r here. absurd (omega arith);
   knows_pinned = λ n p e. absurd (none-some (n, p) e);
@@ -339,16 +328,3 @@ tied_started shape rows passes made number loose some_pass few all = record {
   pinned_low = λ n p e. absurd (none-some (n, p) e);
   written_fresh = λ i c there. absurd (some-ne-none c (sym there));
 }
-  where
-    no_tree : HoldsTree (started_known shape rows passes made number)
-    no_tree = record {
-      is_tree = record {
-        once = λ r. omega arith;
-        few = λ r here. absurd (omega arith);
-        covered = λ r here. absurd (omega arith);
-        linked = λ r x here. absurd (omega arith);
-      };
-      within = λ i c there. absurd (some-ne-none c (sym there));
-      inside = λ r here. absurd (omega arith);
-      unread = λ r here. refl;
-    }

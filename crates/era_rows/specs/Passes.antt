@@ -131,7 +131,7 @@ module _ {L E : Type 0} {G : Ghosts L E} where
   abbrev pub work_of : Pass L E G → List ℕ
   work_of p = p.work.items
 
-  -- the pass is one of these rows
+  -- the pass belongs to these rows
   abbrev pub IsPassOf : Rows L E → Pass L E G → Type 0
   IsPassOf r p = IsSeatOf r p.seat
 

@@ -1,10 +1,7 @@
 //! Joining one pass into another.
-ghost use Rattle.std.specs.Prelude.{◌≡◌, ℕ, ◌+◌, ◌<◌, ◌≤◌, false, ◌||◌, None, [], ◌++◌, slice_index_or, vec_len, vec_capacity};
-ghost use Rattle.era_core.specs.Lists.{is_in};
+ghost use Rattle.std.specs.Prelude.{◌≡◌, ◌+◌, ◌≤◌, None, [], ◌++◌, vec_len, vec_capacity};
 ghost use Rattle.era_rows.specs.Plays.{IsConsistent};
 ghost use Rattle.era_rows.specs.Passes.{knows_of, known_of, marked_of, work_of, IsPassOf, IsSamePass, Joins};
-ghost use mathlib.Core.Option.{some};
-ghost use lib.ListN.{get_elem?};
 
 use crate::law::Law;
 use crate::pass::Pass;

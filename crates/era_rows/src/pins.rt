@@ -1,8 +1,8 @@
 //! Pinning a version and leaving it.
-ghost use Rattle.std.specs.Prelude.{◌≡◌, ℕ, ◌^◌, ◌<◌, Some, None, []};
+ghost use Rattle.std.specs.Prelude.{◌≡◌, ◌^◌, ◌<◌, Some, None, []};
 ghost use Rattle.era_rows.specs.Plays.{IsConsistent, having_left};
 ghost use Rattle.era_rows.specs.May.{MayLeave};
-ghost use Rattle.era_rows.specs.Passes.{knows_of, known_of, marked_of, work_of, IsPassOf, IsSamePass, PinsVersion};
+ghost use Rattle.era_rows.specs.Passes.{knows_of, known_of, marked_of, IsPassOf, IsSamePass, PinsVersion};
 
 use crate::law::{Law, Names};
 use crate::pass::Pass;

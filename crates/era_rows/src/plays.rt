@@ -137,7 +137,7 @@ impl<L: Law> Play<(), Knows<L::Entry>> for Look<L> {
     ghost then = { looked L.caller L.stamp L.accepted L.lawful L.stands L.right };
 }
 
-/// Which entry a step adds, or none. Each call of a step picks it.
+/// Which entry a step adds, or none. A call at [`Brand`] picks it, so that it is the one that the caller's value names.
 pub trait Said<E> {
     ghost use Rattle.std.specs.Prelude.{Option};
 

@@ -1,8 +1,8 @@
 //! The start: the words, and a seat for each pass.
-ghost use Rattle.std.specs.Prelude.{◌≡◌, ℕ, ◌+◌, ◌<◌, ◌≤◌, IfOk, Some, [], ◌∷◌, vec_len};
+ghost use Rattle.std.specs.Prelude.{◌≡◌, ℕ, ◌+◌, ◌<◌, ◌≤◌, IfOk, [], ◌∷◌, vec_len};
 ghost use Rattle.era_core.specs.Words.{start_words};
 ghost use Rattle.era_rows.specs.Rule.{knowing};
-ghost use Rattle.era_rows.specs.Passes.{known_of, seen_of, lists_of, IsPassOf, IsStarted, started_known};
+ghost use Rattle.era_rows.specs.Passes.{IsStarted, started_known};
 ghost use mathlib.Core.Option.{some};
 ghost use lib.ListN.{get_elem?};
 

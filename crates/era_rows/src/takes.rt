@@ -104,7 +104,7 @@ impl<L: Law> Rows<L> {
 
     /// As `take`, by a pass that has pinned a version. Where the answer is None the pass records the looks since its `pin`,
     /// which show that no row is free and, after a `tidy`, what blocks each batch that it kept; the versions of these batches;
-    /// and how many fresh rows it has.
+    /// how many fresh rows it has; and its number.
     pub fn take_or_full(&self, pass: &mut Pass<L>) -> Option<u32>
         requires pass { IsPassOf self.now pass.old }
         requires pinned { (n p : ℕ) × ((known_of pass.old).core.pinned ≡ Some (n, p)) }

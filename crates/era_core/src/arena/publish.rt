@@ -1,9 +1,8 @@
 //! Publication: a new tree takes the place of the pinned version.
 
-ghost use Rattle.std.specs.Prelude.{◌≡◌, ℕ, ◌+◌, ◌^◌, ◌<◌, ◌≤◌, false, length, is_some, is_ok, slice_index_or, if◌then◌else◌, IfOk, IfSome, OnOk, OnErr};
+ghost use Rattle.std.specs.Prelude.{◌≡◌, ℕ, ◌+◌, ◌^◌, ◌<◌, ◌≤◌, false, length, is_some, slice_index_or, IfOk, IfSome, OnOk, OnErr};
 ghost use Rattle.era_core.specs.Lists.{In, without};
 ghost use Rattle.era_core.specs.Words.{words_len, tree_at, root_word as word_of_root};
-ghost use Rattle.era_core.specs.Passes.{view_of};
 ghost use Rattle.era_core.specs.Machine.{is_new_tree, allows, after};
 ghost use Rattle.era_core.specs.declared.event.Event.TheVariants.{Publish};
 

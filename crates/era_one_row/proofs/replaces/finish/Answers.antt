@@ -4,14 +4,15 @@ use Rattle.std.proofs.lemmas.Bool.{true≢false}
 use Rattle.std.proofs.lemmas.Option.{none-some}
 use Rattle.era_core.specs.Lists.{In, without}
 use Rattle.era_rows.specs.Lists.{add_entry}
-use Rattle.era_rows.specs.Known.{Known, copy_known}
-use Rattle.era_rows.specs.Passes.{known_of, knows_of, seen_of, lists_of}
+use Rattle.era_rows.specs.Known.{Known, copy_known, leaving}
+use Rattle.era_rows.specs.Passes.{known_of, knows_of, seen_of, lists_of, giving_back}
 use Rattle.era_rows.specs.declared.views.Knows.{Knows}
 use Rattle.era_one_row.specs.OneRow.{IsOneRow}
 use Rattle.era_one_row.specs.Ready.{stamped}
 use Rattle.era_one_row.specs.declared.law.Stamped.{Stamped}
 use Rattle.era_one_row.proofs.Replacing.{is_replaced, may_replace}
-use Rattle.era_one_row.proofs.Finishing.{if_err, Ends, still_pinned, has_published, lists_left, fresh_left, is_beaten, is_spent}
+use Rattle.era_one_row.proofs.Finishing.{if_err, Ends, still_pinned, has_published, lists_left, fresh_left, is_beaten, is_spent, goes_on, pin_is_same}
+use Rattle.era_one_row.proofs.GoingOn.{goes_as}
 use mathlib.Core.Option.{some}
 use lib.ListN.{get_elem?}
 use Rattle.era_one_row.proofs.replaces.finish.Goals as goal
@@ -57,11 +58,15 @@ same_lists c = ap (λ (k : Knows Stamped). k.lists) c.unpin.ensures.left ∙ eli
   | else-is_err w ↦ ap (λ p. lists_of p) w.pass-is
 ]
 
-same_copies : (c : goal.After-unpin) → (known_of c.unpin.new.pass).copies ≡ (known_of c.publish-published.new.pass).copies
-same_copies c = ap (λ (k : Knows Stamped). k.view.copies) c.unpin.ensures.left ∙ elim c.if-is_err.branch [
-  | then-is_err w ↦ ap (λ p. (known_of p).copies) w.pass-is ∙ ap (λ (k : Known). k.copies) w.give_back.ensures.freed
-  | else-is_err w ↦ ap (λ p. (known_of p).copies) w.pass-is
+same_part : {X : Type 0} (part : Known → X) → ((k : Known) → part (leaving k) ≡ part k) → ((r : ℕ) (k : Known) → part (giving_back r k) ≡ part k)
+    → (c : goal.After-unpin) → part (known_of c.unpin.new.pass) ≡ part (known_of c.publish-published.new.pass)
+same_part part left given c = ap (λ (k : Knows Stamped). part k.view) c.unpin.ensures.left ∙ left (known_of c.if-is_err.pass) ∙ elim c.if-is_err.branch [
+  | then-is_err w ↦ ap (λ p. part (known_of p)) w.pass-is ∙ ap part w.give_back.ensures.freed ∙ given c.args.row (known_of c.publish-published.new.pass)
+  | else-is_err w ↦ ap (λ p. part (known_of p)) w.pass-is
 ]
+
+same_copies : (c : goal.After-unpin) → (known_of c.unpin.new.pass).copies ≡ (known_of c.publish-published.new.pass).copies
+same_copies = same_part (λ k. k.copies) (λ _. refl) (λ _ _. refl)
 
 same_seen : (c : goal.After-unpin) → seen_of c.unpin.new.pass ≡ seen_of c.publish-published.new.pass
 same_seen c = ap (λ (k : Knows Stamped). k.seen) c.unpin.ensures.left ∙ elim c.if-is_err.branch [
@@ -105,4 +110,15 @@ returns-clause-beaten c v is =
     (told.0, told.1 ∙ ap length (sym (same_seen c)))
 
 pub returns-clause-spent : goal.returns-clause-spent
-returns-clause-spent c is = is_spent _ _ _ _ _ _ _ _ _ _ _ _ _ (ended (goal.at.returns-clause-spent c).After-publish-published) is
+returns-clause-spent c is =
+    let told = is_spent _ _ _ _ _ _ _ _ _ _ _ _ _ (ended (goal.at.returns-clause-spent c).After-publish-published) is in
+    (told.0, ap length (same_seen c ∙ told.1) ∙ c.requires.current)
+
+pub returns-clause-on : goal.returns-clause-on
+returns-clause-on c =
+    let on = goes_on _ _ _ _ _ _ _ _ _ _ _ _ _ (ended (goal.at.returns-clause-on c).After-publish-published) in
+    goes_as (known_of c.args.pass.now) (known_of c.publish-published.new.pass) (known_of c.unpin.new.pass) on (same_part (λ k. k.looks) (λ _. refl) (λ _ _. refl) c) (same_part (λ k. k.core.retired) (λ _. refl) (λ _ _. refl) c)
+
+pub returns-clause-same_pin : goal.returns-clause-same_pin
+returns-clause-same_pin c =
+    same_part (λ k. k.since) (λ _. refl) (λ _ _. refl) c ∙ pin_is_same _ _ _ _ _ _ _ _ _ _ _ _ _ (ended (goal.at.returns-clause-same_pin c).After-publish-published)

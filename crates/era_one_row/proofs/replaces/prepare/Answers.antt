@@ -1,8 +1,10 @@
-use Rattle.std.proofs.Common.{◌≡◌, [], ◌∷◌, ◌++◌, refl, sym, ap, subst, ◌∙◌}
+use Rattle.std.proofs.Common.{◌≡◌, [], ◌∷◌, ◌++◌, length, refl, sym, ap, subst, ◌∙◌}
 use Rattle.era_core.specs.Lists.{times, In}
 use Rattle.era_core.specs.Versions.{look_up}
 use Rattle.era_rows.specs.Known.{Known, pinned_copy, known_words, taking_row, writing}
 use Rattle.era_rows.specs.Passes.{having_looked, known_of}
+use Rattle.era_rows.specs.declared.views.Knows.{Knows}
+use Rattle.era_one_row.specs.declared.law.Stamped.{Stamped}
 use Rattle.era_one_row.proofs.Preparing.{in_taken, no_links-written, word-written}
 use Rattle.era_one_row.proofs.replaces.prepare.Goals as goal
 
@@ -24,6 +26,7 @@ returns-clause-ready c =
     record {
       is_pass = c.mark.ensures.pass;
       low = c.requires.low;
+      current = ap (λ (s : Knows Stamped). length s.seen) c.mark.ensures.known ∙ ap length (c.write-2.ensures.same.same_seen ∙ c.write.ensures.same.same_seen ∙ c.in_ok-row.ensures.same.same_seen) ∙ c.requires.current;
       pinned = ap (λ (x : Known). x.core.pinned) (now c) ∙ c.requires.pinned;
       alone = ap (λ (x : Known). (pinned_copy x).rows) (now c) ∙ c.requires.alone;
       fresh = subst (λ (x : Known). In row x.core.fresh) (sym (now c)) (in_taken row _ k refl);

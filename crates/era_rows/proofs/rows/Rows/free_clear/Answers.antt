@@ -3,7 +3,7 @@ use Rattle.atomic_table.proofs.Lists.{at_index}
 use Rattle.era_core.specs.Views.{clears}
 use Rattle.era_rows.specs.Known.{Known}
 use Rattle.era_rows.specs.Passes.{known_of}
-use Rattle.era_rows.proofs.Tidying.{HasFreed, freed_none, freed_kept, freed_more, freed_count, freed_few, freed_all}
+use Rattle.era_rows.proofs.Freeing.{HasFreed, freed_none, freed_kept, freed_more, freed_count, freed_few, freed_all}
 use Rattle.era_rows.proofs.rows.Rows.free_clear.Goals as goal
 use mathlib.Core.Option.{some}
 use lib.ListN.{get_elem?}

@@ -1,5 +1,5 @@
 use Rattle.era_rows.specs.Passes.{known_of, IsPassOf, HasSame}
-use Rattle.era_rows.proofs.Tidying.{HasFreed}
+use Rattle.era_rows.proofs.Freeing.{HasFreed}
 use Rattle.era_rows.proofs.rows.Rows.free_clear.Given as goal
 
 -- the cleared pairs from this place on are freed

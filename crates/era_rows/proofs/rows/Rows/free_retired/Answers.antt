@@ -7,7 +7,7 @@ use Rattle.era_rows.specs.Known.{Known}
 use Rattle.era_rows.specs.declared.views.Knows.{Knows}
 use Rattle.era_rows.proofs.Looking.{frees_cleared_at}
 use Rattle.era_rows.proofs.Tied.{tied_as, room_as}
-use Rattle.era_rows.proofs.Tidying.{less_row, retired_inside, retired_cleared, freed_known, tied_freed}
+use Rattle.era_rows.proofs.Freeing.{less_row, retired_inside, retired_cleared, freed_known, tied_freed}
 use Rattle.era_rows.proofs.rows.Rows.free_retired.Goals as goal
 use mathlib.Core.Option.{some-injective}
 

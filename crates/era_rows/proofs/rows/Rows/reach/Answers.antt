@@ -5,7 +5,8 @@ use Rattle.era_rows.specs.Known.{Known, known_words}
 use Rattle.era_rows.specs.Reach.{IsReached, AddsLinks}
 use Rattle.era_core.proofs.Marks.{in_at}
 use Rattle.era_rows.proofs.Flags.{none_reached, reached_few}
-use Rattle.era_rows.proofs.Reaching.{IsWalking, read_none, read_more, same_knows, fresh_inside, new_inside, new_covered, new_linked, walk_start, walk_more, walk_done}
+use Rattle.era_rows.proofs.Holding.{fresh_inside}
+use Rattle.era_rows.proofs.Reaching.{IsWalking, read_none, read_more, same_knows, new_inside, new_covered, new_linked, walk_start, walk_more, walk_done}
 use Rattle.era_rows.proofs.rows.Rows.reach.Goals as goal
 
 pub reach_row-requires-clause-row : goal.reach_row-requires-clause-row

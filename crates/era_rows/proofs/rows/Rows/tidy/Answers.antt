@@ -1,5 +1,5 @@
 use Rattle.era_rows.specs.Passes.{known_of}
-use Rattle.era_rows.proofs.Tidying.{tidied}
+use Rattle.era_rows.proofs.Freeing.{tidied}
 use Rattle.era_rows.proofs.rows.Rows.tidy.Goals as goal
 
 pub returns-clause-tidied : goal.returns-clause-tidied

@@ -1,0 +1,80 @@
+-- What a pass knew it still knows, and its last pin stays.
+use Rattle.std.proofs.Common.{◌≡◌, ℕ, ◌+◌, ◌^◌, ◌<◌, Bool, List, [], ◌∷◌, ◌++◌, drop, length, refl, sym, ap, subst, ◌∙◌, arith, append-nil, append_assoc, length-append}
+use Rattle.std.proofs.Math.Seq.{drop-append_seam}
+use Rattle.era_core.specs.Words.{root_word, owner_at}
+use Rattle.era_core.specs.Versions.{Copy}
+use Rattle.era_core.proofs.ListFacts.{at_end}
+use Rattle.era_core.proofs.Publishes.{root_word-version}
+use Rattle.era_rows.specs.Known.{Known, Look}
+use Rattle.era_rows.specs.Lists.{IsPrefix}
+use Rattle.era_rows.specs.Passes.{AreTaken, HasRead, PinsVersion}
+use Rattle.era_rows.specs.declared.views.Knows.{Knows}
+use Rattle.era_rows.proofs.Logs.{prefix_more}
+use Rattle.era_rows.proofs.Seats.{at_behind, prefix_at}
+use Rattle.era_one_row.specs.Ready.{GoesOn, HasPinned, new_looks}
+use lib.ListN.{get_elem?}
+
+-- what begins the beginning of a list begins the list
+begins_twice : {A : Type 0} (xs ys zs : List A) → IsPrefix xs ys → IsPrefix ys zs → IsPrefix xs zs
+begins_twice xs ys zs first second = subst (IsPrefix xs) second.1 (prefix_more xs ys second.0 first)
+
+-- two calls in turn, and a call that found these words and retired these batches
+pub goes_twice : (k l m : Known) → GoesOn k l → GoesOn l m → GoesOn k m
+goes_twice k l m first second = record {
+  looked = begins_twice k.looks l.looks m.looks first.looked second.looked;
+  kept = begins_twice k.core.retired l.core.retired m.core.retired first.kept second.kept;
+}
+
+-- what is known of the looks and of the batches is all that counts
+pub goes_as : (k l m : Known) → GoesOn k l → m.looks ≡ l.looks → m.core.retired ≡ l.core.retired → GoesOn k m
+goes_as k l m on looks retired = record {
+  looked = subst (IsPrefix k.looks) (sym looks) on.looked;
+  kept = subst (IsPrefix k.core.retired) (sym retired) on.kept;
+}
+
+-- reads go on
+pub read_goes : (k l : Known) → HasRead k l → GoesOn k l
+read_goes k l read = record {
+  looked = (read.more, sym (ap (λ (x : Known). x.looks) read.now));
+  kept = ([], append-nil k.core.retired ∙ sym (ap (λ (x : Known). x.core.retired) read.now));
+}
+
+-- the last pin stays where a call finds more and pins nothing
+pub pin_stays : (n : ℕ) (k l m : Known) → HasPinned n k l → IsPrefix l.looks m.looks → m.since ≡ l.since → HasPinned n k m
+pin_stays n k l m pinned looked same = record {
+  word = pinned.word;
+  version = pinned.version;
+  in_call = (let there = pinned.in_call in omega arith);
+  found = ap (get_elem? m.looks) same ∙ prefix_at l.looks m.looks l.since (0, pinned.word) looked pinned.found;
+}
+
+-- rows that these looks found taken are found taken by these and others
+taken_among : (passes rows from to : ℕ) (first more last : List Look) → AreTaken passes rows from to more → AreTaken passes rows from to (first ++ (more ++ last))
+taken_among passes rows from to first more last taken r least most =
+    let at = taken r least most in
+    let look : Look = (owner_at passes rows r, at.1) in
+    (length first + at.0, at.1, at.2, at_behind first (more ++ last) at.0 ∙ prefix_at more (more ++ last) at.0 look (last, refl) at.3)
+
+-- so they are, where a call found first what one part found, then these, and then others
+pub taken_in_call : (passes rows to : ℕ) (k l after : Known) (more last : List Look) → GoesOn k l → after.looks ≡ (l.looks ++ more) ++ last
+    → AreTaken passes rows 0 to more → AreTaken passes rows 0 to (new_looks k after)
+taken_in_call passes rows to k l after more last on looks taken =
+    let first = on.looked.0 in
+    let all : after.looks ≡ k.looks ++ (first ++ (more ++ last)) =
+    looks ∙ append_assoc l.looks more last ∙ ap (λ xs. xs ++ (more ++ last)) (sym on.looked.1) ∙ append_assoc k.looks first (more ++ last) in
+    subst (AreTaken passes rows 0 to) (sym (ap (drop (length k.looks)) all ∙ drop-append_seam k.looks (first ++ (more ++ last)))) (taken_among passes rows 0 to first more last taken)
+
+module _ {E : Type 0} (caller stamp : E → ℕ) (accepted : ℕ → E → Bool) (lawful : ℕ → Copy → Type 0) (stands : ℕ → Copy → List E → Type 0) (right : ℕ → E → List E → Type 0)
+    (n p : ℕ) (low : p < 2 ^ 24) (before after : Knows E) (pins : PinsVersion caller stamp accepted lawful stands right n p before after) where
+  -- a pin is one of this call
+  pub pin_was_now : HasPinned n before.view after.view
+  pin_was_now =
+      let noted : List Look = before.view.looks ++ (0, pins.0) ∷ [] in
+      let since : after.view.since ≡ length noted = ap (λ (k : Known). k.since) pins.1.view_is in
+      let long : length noted ≡ length before.view.looks + 1 = length-append before.view.looks ((0, pins.0) ∷ []) in
+      record {
+        word = root_word n p;
+        version = root_word-version n p low;
+        in_call = omega arith;
+        found = ap (get_elem? after.view.looks) since ∙ ap (λ (k : Known). get_elem? k.looks (length noted)) pins.1.view_is ∙ at_end noted (0, root_word n p);
+      }
