@@ -1,8 +1,9 @@
 -- Free keeps what is sound: of a fresh row, and of a retired one that a whole scan has cleared.
-use Rattle.std.proofs.Common.{◌≡◌, ◌≢◌, ℕ, ◌+◌, ◌/◌, ◌%◌, ◌^◌, ◌<◌, ◌≤◌, ⊎_elim, inl, inr, true, cond, Some, List, [], ◌∷◌, set, slice_index, refl, sym, ap, subst, ◌∙◌, arith, length-set, lt-ltb, le-ltb}
+use Rattle.std.proofs.Common.{◌≡◌, ◌≢◌, ℕ, ◌+◌, ◌/◌, ◌%◌, ◌<◌, ◌≤◌, ⊎_elim, inl, inr, true, cond, Some, List, [], ◌∷◌, set, slice_index, refl, sym, ap, subst, ◌∙◌, arith, length-set, lt-ltb, le-ltb}
 use Rattle.std.specs.Prelude.{◌&&◌}
 use Rattle.std.specs.List.{list_any}
 use Rattle.std.proofs.lemmas.Bool.{cases_eq, cases_lt, false≢true}
+use Rattle.era_core.specs.declared.sizes.TheConstants.{ROOT_ROWS}
 use Rattle.era_core.specs.Lists.{times, In, is_in, total, without}
 use Rattle.era_core.specs.Words.{version, root_row, owner_at, reservation, cell, tree_at, live}
 use Rattle.era_core.specs.Views.{Batch, View, start_view, rows_in, versions_of, late, held, clears, freeing, without_row}
@@ -114,13 +115,13 @@ module _ (passes rows : ℕ) where
       same_root = owner_keeps_root passes rows ws r 0
 
       same_version : version us ≡ version ws
-      same_version = ap (λ x. x / 2 ^ 24) same_root
+      same_version = ap (λ x. x / ROOT_ROWS) same_root
 
       same_cell : (x p : ℕ) → cell passes rows us x p ≡ cell passes rows ws x p
       same_cell x p = owner_keeps_cell passes rows ws r 0 x p row
 
       same_live : live passes rows us ≡ live passes rows ws
-      same_live = ap (λ x. tree_at passes rows us (x % 2 ^ 24)) same_root ∙ tree_stays passes rows ws us (root_row ws) (λ x p here place. same_cell x p)
+      same_live = ap (λ x. tree_at passes rows us (x % ROOT_ROWS)) same_root ∙ tree_stays passes rows ws us (root_row ws) (λ x p here place. same_cell x p)
 
       same_reservation : (j : ℕ) → j < passes → reservation passes rows us j ≡ reservation passes rows ws j
       same_reservation j pass = owner_keeps_reservation passes rows ws r 0 j pass
@@ -216,7 +217,7 @@ module _ (passes rows : ℕ) where
       frees_retired_as = record {
         long = length-set ws (owner_at passes rows r) 0 ∙ sound.long;
         counted = sound.counted ∙ ap (λ x. x + 1) (sym same_version);
-        rooted = λ c there. sound.rooted c (ap (λ n. get_elem? cs n) (sym same_version) ∙ there) ∙ ap (λ x. x % 2 ^ 24) (sym same_root);
+        rooted = λ c there. sound.rooted c (ap (λ n. get_elem? cs n) (sym same_version) ∙ there) ∙ ap (λ x. x % ROOT_ROWS) (sym same_root);
         stands = λ c there. same_stands c.cells (sound.stands c (ap (λ n. get_elem? cs n) (sym same_version) ∙ there));
         current = λ c there. sound.current c (ap (λ n. get_elem? cs n) (sym same_version) ∙ there) ∙ sym same_live;
         places = λ x.

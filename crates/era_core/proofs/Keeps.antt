@@ -2,6 +2,7 @@
 use Rattle.std.proofs.Common.{◌≡◌, ◌≢◌, ℕ, zero, suc, ◌+◌, ◌-◌, ◌<◌, ◌≤◌, min, ◌⊎◌, ⊎_elim, inl, inr, Bool, true, false, cond, ltb, eqb, ◌&&◌, Option, Some, None, List, [], ◌∷◌, set, refl, sym, ap, subst, ◌∙◌, arith, length-set, lt-ltb, le-ltb, ne_eqb}
 use Rattle.std.proofs.lemmas.Bool.{cases_eq, cases_lt, ltb-false, true≢false}
 use Rattle.std.proofs.lemmas.Option.{same_Some, none-some}
+use Rattle.era_core.specs.declared.sizes.TheConstants.{WIDTH}
 use Rattle.era_core.specs.Lists.{times, In}
 use Rattle.era_core.specs.Words.{version, root_row, reservation_at, owner_at, cell_at, reservation, owner, live}
 use Rattle.era_core.specs.Views.{View, rows_in, held, reserved, lesser, clears, noting, pinning, reading, taking, unpinning, looking}
@@ -252,7 +253,7 @@ module _ (passes rows : ℕ) where
         let shared_r : IsShared passes rows ws vs r = subst (IsShared passes rows ws vs) e shared in
         omega (arith, sound.places r)
 
-    pub writes : (r p word : ℕ) → p < 40 → In r v.fresh → Sound passes rows (set ws (cell_at passes rows r p) word) (set vs i v) cs
+    pub writes : (r p word : ℕ) → p < WIDTH → In r v.fresh → Sound passes rows (set ws (cell_at passes rows r p) word) (set vs i v) cs
     writes r p word place fresh =
         let us = set ws (cell_at passes rows r p) word in
         let leaves : LeavesShared passes rows ws us vs k v v = record {

@@ -1,6 +1,7 @@
 mod Worked
 pub mod ListFacts
 pub mod WordFacts
+pub mod Room
 pub mod TreeFacts
 pub mod BatchFacts
 pub mod NumberFacts

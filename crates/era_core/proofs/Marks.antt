@@ -5,6 +5,7 @@ use Rattle.std.specs.List.{list_all}
 use Rattle.std.proofs.lemmas.Bool.{cases_eq, and_parts, and_from, false≢true}
 use Rattle.std.proofs.lemmas.List.{append-nil}
 use Rattle.std.proofs.lemmas.List.Folds.{list_all-append}
+use Rattle.era_core.specs.declared.sizes.TheConstants.{MOST_LINKS, KINDS}
 use Rattle.era_core.specs.Lists.{times, In, is_in, all_different}
 use Rattle.era_core.specs.Words.{run_of, cell, links}
 use Rattle.era_core.specs.Machine.{are_linked}
@@ -76,7 +77,7 @@ either_mark false false = refl
 module _ (passes rows : ℕ) (ws : List ℕ) where
   -- no more links than the row has words for, each of them a row
   abbrev pub has_links : ℕ → Bool
-  has_links x = leb (cell passes rows ws x 0 / 4) 39 && list_all (λ y. ltb y rows) (links passes rows ws x)
+  has_links x = leb (cell passes rows ws x 0 / KINDS) MOST_LINKS && list_all (λ y. ltb y rows) (links passes rows ws x)
 
   -- the rows are a tree that may come whole
   abbrev pub may_come_whole : List Bool → List ℕ → Bool

@@ -1,8 +1,9 @@
 -- A Publish of the running machine: refused, too late, or done.
-use Rattle.std.proofs.Common.{◌≡◌, ◌≢◌, ℕ, zero, suc, ◌+◌, ◌-◌, ◌^◌, ◌<◌, ⊎_elim, Bool, true, false, cond, ltb, Some, List, [], ◌∷◌, ◌++◌, get_or, length, take, drop, set, refl, sym, ap, ◌∙◌, arith, lt-ltb, eq-eqb, ne_eqb}
+use Rattle.std.proofs.Common.{◌≡◌, ◌≢◌, ℕ, zero, suc, ◌+◌, ◌<◌, ⊎_elim, Bool, true, false, cond, ltb, Some, List, [], ◌∷◌, ◌++◌, get_or, length, take, drop, set, refl, sym, ap, ◌∙◌, arith, lt-ltb, eq-eqb, ne_eqb}
 use Rattle.std.specs.Prelude.{◌&&◌, ◌||◌, slice_index}
 use Rattle.std.specs.List.{list_all}
 use Rattle.std.proofs.lemmas.Bool.{and_from, and_parts, or_cases, ltb-true}
+use Rattle.era_core.specs.declared.sizes.TheConstants.{LAST_VERSION}
 use Rattle.era_core.specs.Lists.{times, In, is_in, all_different, without}
 use Rattle.era_core.specs.Words.{root_word, tree_at}
 use Rattle.era_core.specs.Views.{View, replacing}
@@ -52,15 +53,15 @@ module _ {A : Type 0} (f : A → View) (passes rows : ℕ) (ws : List ℕ) (xs :
   pub publish_refused : fits_by ≡ false → (allows (before f passes rows ws xs) (Publish k q) ≡ false) × (after (before f passes rows ws xs) (Publish k q) ≡ before f passes rows ws xs)
   publish_refused broken =
       refused f passes rows ws xs (Publish k q) p running inside is
-      (ap (may_publish passes rows ws (f p) q) pin ∙ none_of (ltb n (2 ^ 40 - 1) && ltb q rows && is_in q (f p).fresh) fits_by broken)
+      (ap (may_publish passes rows ws (f p) q) pin ∙ none_of (ltb n LAST_VERSION && ltb q rows && is_in q (f p).fresh) fits_by broken)
 
-  module _ (low : n < 2 ^ 40 - 1) (row : q < rows) (fresh : is_in q (f p).fresh ≡ true) (fits : fits_by ≡ true) where
+  module _ (low : n < LAST_VERSION) (row : q < rows) (fresh : is_in q (f p).fresh ≡ true) (fits : fits_by ≡ true) where
     may_be : true ≡ may passes rows ws (f p) (Publish k q)
     may_be =
         sym (ap (may_publish passes rows ws (f p) q) pin
-        ∙ and_from (ltb n (2 ^ 40 - 1) && ltb q rows && is_in q (f p).fresh) fits_by
-        (and_from (ltb n (2 ^ 40 - 1) && ltb q rows) (is_in q (f p).fresh)
-        (and_from (ltb n (2 ^ 40 - 1)) (ltb q rows) (lt-ltb n (2 ^ 40 - 1) low) (lt-ltb q rows row)) fresh) fits)
+        ∙ and_from (ltb n LAST_VERSION && ltb q rows && is_in q (f p).fresh) fits_by
+        (and_from (ltb n LAST_VERSION && ltb q rows) (is_in q (f p).fresh)
+        (and_from (ltb n LAST_VERSION) (ltb q rows) (lt-ltb n LAST_VERSION low) (lt-ltb q rows row)) fresh) fits)
 
     -- another pass has published meanwhile
     pub publish_late : slice_index ws 0 ≢ root_word n r → Stored f passes rows ws xs (Publish k q) true ws

@@ -1,7 +1,8 @@
 -- Publish keeps what is sound, with the new tree's copy at the end of the versions.
-use Rattle.std.proofs.Common.{◌≡◌, ℕ, zero, suc, ◌+◌, ◌/◌, ◌%◌, ◌^◌, ◌<◌, ◌≤◌, ◌⊎◌, ⊎_elim, inl, inr, cond, leb, Some, List, [], ◌∷◌, ◌++◌, length, set, slice_index, refl, sym, ap, subst, ◌∙◌, arith, length-set, length-append, get_or-set_same, le-leb}
+use Rattle.std.proofs.Common.{◌≡◌, ℕ, zero, suc, ◌+◌, ◌/◌, ◌%◌, ◌<◌, ◌≤◌, ◌⊎◌, ⊎_elim, inl, inr, cond, leb, Some, List, [], ◌∷◌, ◌++◌, length, set, slice_index, refl, sym, ap, subst, ◌∙◌, arith, length-set, length-append, get_or-set_same, le-leb}
 use Rattle.std.proofs.lemmas.Bool.{cases_eq}
 use Rattle.std.proofs.lemmas.Option.{same_Some, none-some}
+use Rattle.era_core.specs.declared.sizes.TheConstants.{ROOT_ROWS}
 use Rattle.era_core.specs.Lists.{times, In, without}
 use Rattle.era_core.specs.Words.{root_word, version, root_row, reservation, tree_at, live}
 use Rattle.era_core.specs.Views.{Batch, View, rows_in, versions_of, late, held, batch_of, publishing}
@@ -19,10 +20,10 @@ use mathlib.Core.Option.{some}
 use lib.ListN.{get_elem?}
 
 -- the parts of a root word
-pub root_word-version : (n r : ℕ) → r < 2 ^ 24 → root_word n r / 2 ^ 24 ≡ n
+pub root_word-version : (n r : ℕ) → r < ROOT_ROWS → root_word n r / ROOT_ROWS ≡ n
 root_word-version n r small = omega arith
 
-pub root_word-row : (n r : ℕ) → r < 2 ^ 24 → root_word n r % 2 ^ 24 ≡ r
+pub root_word-row : (n r : ℕ) → r < ROOT_ROWS → root_word n r % ROOT_ROWS ≡ r
 root_word-row n r small = omega arith
 
 module _ (passes rows : ℕ) where
@@ -42,7 +43,7 @@ module _ (passes rows : ℕ) where
       let e = pin.rooted c found.1 in omega arith
 
   module _ (ws : List ℕ) (vs : List View) (cs : List Copy) (sound : Sound passes rows ws vs cs) (i k : ℕ) (v : View) (at : get_elem? vs i ≡ some v) (mine : v.number ≡ Some k)
-      (n p q : ℕ) (pinned : v.pinned ≡ Some (n, p)) (found : slice_index ws 0 ≡ root_word n p) (few : rows ≤ 2 ^ 24) (fresh_root : In q v.fresh)
+      (n p q : ℕ) (pinned : v.pinned ≡ Some (n, p)) (found : slice_index ws 0 ≡ root_word n p) (few : rows ≤ ROOT_ROWS) (fresh_root : In q v.fresh)
       (parts : (x : ℕ) → In x (tree_at passes rows ws q) → In x v.fresh ⊎ In x (tree_at passes rows ws p))
       (c : Copy) (root_is : c.root ≡ q) (rows_are : c.rows ≡ tree_at passes rows ws q) (stands : Stands passes rows ws c.cells) (closed : IsClosed rows c) where
     abbrev us : List ℕ
@@ -69,26 +70,26 @@ module _ (passes rows : ℕ) where
     once : (x : ℕ) → times x new ≤ 1
     once x = let P : List ℕ → Type 0 = λ xs. times x xs ≤ 1 in subst P rows_are (closed.once x)
 
-    p_small : p < 2 ^ 24
+    p_small : p < ROOT_ROWS
     p_small = omega (arith, pin_within ws vs cs sound k n p v.retired pin)
 
-    q_small : q < 2 ^ 24
+    q_small : q < ROOT_ROWS
     q_small = omega (arith, held_within passes rows ws vs cs sound i k v at mine q (omega (arith, times-append q v.fresh (rows_in v.retired))))
 
     version_was : version ws ≡ n
-    version_was = ap (λ x. x / 2 ^ 24) found ∙ root_word-version n p p_small
+    version_was = ap (λ x. x / ROOT_ROWS) found ∙ root_word-version n p p_small
 
     root_was : root_row ws ≡ p
-    root_was = ap (λ x. x % 2 ^ 24) found ∙ root_word-row n p p_small
+    root_was = ap (λ x. x % ROOT_ROWS) found ∙ root_word-row n p p_small
 
     stored : slice_index us 0 ≡ root_word (n + 1) q
     stored = get_or-set_same ws 0 (root_word (n + 1) q) 0 (omega (arith, sound.long))
 
     version_is : version us ≡ n + 1
-    version_is = ap (λ x. x / 2 ^ 24) stored ∙ root_word-version (n + 1) q q_small
+    version_is = ap (λ x. x / ROOT_ROWS) stored ∙ root_word-version (n + 1) q q_small
 
     root_row_is : root_row us ≡ q
-    root_row_is = ap (λ x. x % 2 ^ 24) stored ∙ root_word-row (n + 1) q q_small
+    root_row_is = ap (λ x. x % ROOT_ROWS) stored ∙ root_word-row (n + 1) q q_small
 
     old_is : live passes rows ws ≡ old
     old_is = ap (tree_at passes rows ws) root_was

@@ -3,6 +3,7 @@ use Rattle.std.proofs.Common.{◌≡◌, ◌≢◌, ℕ, zero, suc, ◌+◌, ◌
 use Rattle.std.specs.Prelude.{◌&&◌, ◌||◌, is_some, unwrap_or, slice_get, option_and_then, option_map}
 use Rattle.std.proofs.lemmas.Bool.{and_parts, and_from, or_left, eqb-true}
 use Rattle.std.proofs.lemmas.Option.{same_Some, none-some}
+use Rattle.era_core.specs.declared.sizes.TheConstants.{WIDTH}
 use Rattle.era_core.specs.Lists.{times, In, is_in, tree}
 use Rattle.era_core.specs.Words.{links, owner_at, owner, cell, tree_at, version}
 use Rattle.era_core.specs.Views.{View, rows_in, held}
@@ -132,7 +133,7 @@ module _ (m : Machine) (cs : List Copy) (is_sound : IsSound m cs) (k n root : �
   pinned_within r here = shared_within m.passes m.rows m.words m.views cs is_sound.sound r (pinned_shared r here)
 
   -- each word of the pinned tree is that of the version
-  pub pinned_word : (r p : ℕ) → In r (tree_of m root) → p < 40 → published_word cs n r p ≡ Some (cell_of m r p)
+  pub pinned_word : (r p : ℕ) → In r (tree_of m root) → p < WIDTH → published_word cs n r p ≡ Some (cell_of m r p)
   pinned_word r p here place =
       let t = known_reader in
       let has = is_sound.whole n t.copy t.there r p (subst (In r) t.rows_are here) place in
@@ -140,7 +141,7 @@ module _ (m : Machine) (cs : List Copy) (is_sound : IsSound m cs) (k n root : �
       ap (λ o. option_and_then (λ (c : Copy). look_up c.cells r p) o) (slice_get_at cs n t.copy t.there) ∙ w.1 ∙ ap Some (sym (look_up_stands m.passes m.rows m.words t.copy.cells (t.pin.stands t.copy t.there) r p w.0 w.1))
 
   -- a read of the pinned tree is allowed, and finds the word of the version
-  pub read_pinned : (r p : ℕ) → In r (tree_of m root) → p < 40
+  pub read_pinned : (r p : ℕ) → In r (tree_of m root) → p < WIDTH
       → (allows m (Read k r p) ≡ true) × (last_of (after m (Read k r p)) k ≡ published_word cs n r p)
   read_pinned r p here place =
       let t = known_reader in
@@ -148,14 +149,14 @@ module _ (m : Machine) (cs : List Copy) (is_sound : IsSound m cs) (k n root : �
       let in_tree : is_in r (pinned_rows m.passes m.rows m.words t.view.pinned) ≡ true =
       ap (λ o. is_in r (pinned_rows m.passes m.rows m.words o)) t.pinned ∙ lt-ltb 0 (times r (tree_of m root)) here in
       let fits : may m.passes m.rows m.words t.view e ≡ true =
-      and_from (ltb r m.rows && ltb p 40) (is_in r t.view.fresh || is_in r (pinned_rows m.passes m.rows m.words t.view.pinned))
-      (and_from (ltb r m.rows) (ltb p 40) (lt-ltb r m.rows (pinned_within r here)) (lt-ltb p 40 place))
+      and_from (ltb r m.rows && ltb p WIDTH) (is_in r t.view.fresh || is_in r (pinned_rows m.passes m.rows m.words t.view.pinned))
+      (and_from (ltb r m.rows) (ltb p WIDTH) (lt-ltb r m.rows (pinned_within r here)) (lt-ltb p WIDTH place))
       (or_right_true (is_in r t.view.fresh) (is_in r (pinned_rows m.passes m.rows m.words t.view.pinned)) in_tree) in
       let ok : allows m e ≡ true = ap (allows_at m e) t.at ∙ fits in
       (ok, read_last m k r p t.view t.at ok ∙ sym (pinned_word r p here place))
 
 -- a read of a fresh row is allowed, and finds the word that stands there
-pub read_fresh : (m : Machine) (cs : List Copy) → IsSound m cs → (k r p : ℕ) → In r (fresh_of m k) → p < 40
+pub read_fresh : (m : Machine) (cs : List Copy) → IsSound m cs → (k r p : ℕ) → In r (fresh_of m k) → p < WIDTH
     → (allows m (Read k r p) ≡ true) × (last_of (after m (Read k r p)) k ≡ Some (cell_of m r p))
 read_fresh m cs is_sound k r p here place = by_view (slice_get m.views k) refl here
   where
@@ -166,8 +167,8 @@ read_fresh m cs is_sound k r p here place = by_view (slice_get m.views k) refl h
         let at = at_slice_get m.views k v is in
         let row = held_within m.passes m.rows m.words m.views cs is_sound.sound k k v at (is_sound.ordered k v at) r (omega (arith, times-append r v.fresh (rows_in v.retired))) in
         let fits : may m.passes m.rows m.words v (Read k r p) ≡ true =
-        and_from (ltb r m.rows && ltb p 40) (is_in r v.fresh || is_in r (pinned_rows m.passes m.rows m.words v.pinned))
-        (and_from (ltb r m.rows) (ltb p 40) (lt-ltb r m.rows row) (lt-ltb p 40 place))
+        and_from (ltb r m.rows && ltb p WIDTH) (is_in r v.fresh || is_in r (pinned_rows m.passes m.rows m.words v.pinned))
+        (and_from (ltb r m.rows) (ltb p WIDTH) (lt-ltb r m.rows row) (lt-ltb p WIDTH place))
         (or_left (is_in r v.fresh) (is_in r (pinned_rows m.passes m.rows m.words v.pinned)) (lt-ltb 0 (times r v.fresh) fresh)) in
         let ok : allows m (Read k r p) ≡ true = ap (allows_at m (Read k r p)) is ∙ fits in
         (ok, read_last m k r p v is ok)
@@ -188,13 +189,6 @@ taken_unread m cs is_sound k r j n root changed pinned here =
     by_test : (b : Bool) → owner_of (cond b (after_at m (Take k r) (slice_get m.views k)) m) r ≡ owner_of m r
     by_test true = stays_owned (slice_get m.views k)
     by_test false = refl
-
--- no row stands twice in a pinned tree, so a walk of it visits no more rows than there are
-pub pinned_once : (m : Machine) (cs : List Copy) → IsSound m cs → (k n root : ℕ) → pin_of m k ≡ Some (n, root) → (r : ℕ) → times r (tree_of m root) ≤ 1
-pinned_once m cs is_sound k n root pinned r =
-    let t = reader m cs is_sound k n root pinned in
-    let P : List ℕ → Type 0 = λ xs. times r xs ≤ 1 in
-    subst P (sym t.rows_are) ((is_sound.sound.closed n t.copy t.there).once r)
 
 -- what a pass has noted is no later than the root's version
 pub noted_low : (m : Machine) (cs : List Copy) → IsSound m cs → (k n : ℕ) (v : View) → slice_get m.views k ≡ Some v → v.noted ≡ Some n → n ≤ version m.words

@@ -5,7 +5,7 @@ use Rattle.std.specs.List.{list_any}
 use Rattle.std.proofs.Math.Logic.{∥∥₁_map, ∥∥₁_elim}
 use Rattle.std.proofs.Math.Bridge.{le_prop}
 use Rattle.std.proofs.lemmas.Bool.{cases_eq, and_parts, ltb-true, false≢true}
-use Rattle.std.proofs.lemmas.Option.{slice_get_within, slice_get_past}
+use Rattle.std.proofs.lemmas.Option.{slice_get_within}
 use Rattle.std.proofs.lemmas.List.{length-map, map-set}
 use Rattle.era_core.specs.Lists.{In, is_in}
 use Rattle.era_core.specs.Words.{root_word, words_len, owner_at, reservation_at, cell_at, owner}
@@ -127,13 +127,6 @@ module _ (m : Machine) (e : Event) (v : View) (at : slice_get m.views (pass_of e
       ap (λ ws. put m (pass_of e) ws view) same_words ∙ ap (put m (pass_of e) m.words) same_view
       ∙ ap (λ us. record { rows = m.rows; passes = m.passes; words = m.words; views = us }) (set_again m.views (pass_of e) v (at_slice_get m.views (pass_of e) v at))
       ∙ ap (λ b. cond b (after_at m e (slice_get m.views (pass_of e))) m) (refused ∙ sym allows_by)
-
--- an event of a pass that is not there
-pub no_pass : (m : Machine) (e : Event) → length m.views ≤ pass_of e → (allows m e ≡ false) × (after m e ≡ m)
-no_pass m e past =
-    let none = slice_get_past m.views (pass_of e) past in
-    let refused : allows m e ≡ false = ap (allows_at m e) none in
-    (refused, ap (λ b. cond b (after_at m e (slice_get m.views (pass_of e))) m) refused)
 
 -- the view of a running pass
 pub slice_get-map : {A : Type 0} (f : A → View) (xs : List A) (i : ℕ) (d : A) → i < length xs → slice_get (map f xs) i ≡ Some (f (get_or xs i d))

@@ -1,11 +1,12 @@
 -- Every event keeps a machine sound, so every schedule leaves a sound one.
-use Rattle.std.proofs.Common.{length, take, drop, get_or, ◌≡◌, ℕ, zero, suc, ◌+◌, ◌-◌, ◌^◌, ◌<◌, ◌≤◌, ⊎_elim, inl, inr, Bool, true, false, cond, eqb, ltb, Option, Some, None, List, [], ◌∷◌, ◌++◌, set, slice_index, refl, sym, ap, subst, ◌∙◌, arith, length-set}
+use Rattle.std.proofs.Common.{length, take, drop, get_or, ◌≡◌, ℕ, zero, suc, ◌+◌, ◌<◌, ◌≤◌, ⊎_elim, inl, inr, Bool, true, false, cond, eqb, ltb, Option, Some, None, List, [], ◌∷◌, ◌++◌, set, slice_index, refl, sym, ap, subst, ◌∙◌, arith, length-set}
 use Rattle.std.specs.Prelude.{◌&&◌, ◌||◌, is_none, is_some, option_map, slice_get}
 use Rattle.std.specs.List.{list_all, list_any}
 use Rattle.std.proofs.lemmas.Bool.{and_parts, or_cases, eqb-true, ltb-true, false≢true}
 use Rattle.std.proofs.lemmas.Option.{same_Some, none-some}
 use Rattle.std.proofs.lemmas.List.{take_more, take-append-drop, length-take-le}
 use Rattle.std.proofs.Math.Seq.{drop-cons}
+use Rattle.era_core.specs.declared.sizes.TheConstants.{WIDTH, LAST_VERSION, MOST_ROWS}
 use Rattle.era_core.specs.Lists.{times, In, is_in, all_different, without}
 use Rattle.era_core.specs.Words.{root_word, owner_at, reservation, owner, cell, tree_at}
 use Rattle.era_core.specs.Views.{View, clears, taking, without_row}
@@ -50,7 +51,7 @@ at_slice_get [] i x there = absurd (none-some x there)
 at_slice_get (y ∷ ys) zero x there = ap some (same_Some y x there)
 at_slice_get (y ∷ ys) (suc i) x there = at_slice_get ys i x there
 
-module _ (passes rows : ℕ) (few : rows ≤ 262144) (ws : List ℕ) (vs : List View) (cs : List Copy) (sound : Sound passes rows ws vs cs) where
+module _ (passes rows : ℕ) (few : rows ≤ MOST_ROWS) (ws : List ℕ) (vs : List View) (cs : List Copy) (sound : Sound passes rows ws vs cs) where
   announce_as : (k : ℕ) (v : View) (o : Option ℕ) → get_elem? vs k ≡ some v → v.number ≡ Some k → v.noted ≡ o → is_some o ≡ true → reservation passes rows ws k ≡ 0
       → Sound passes rows (words_announced passes rows ws k o) (set vs k v) cs
   announce_as k v None at mine noted is_noted none = absurd (false≢true is_noted)
@@ -69,8 +70,8 @@ module _ (passes rows : ℕ) (few : rows ≤ 262144) (ws : List ℕ) (vs : List 
   publish_as k q v (Some pin) true at mine pinned ok is =
       let old : List ℕ = tree_at passes rows ws pin.1 in
       let new : List ℕ = tree_at passes rows ws q in
-      let a = and_parts (ltb pin.0 (2 ^ 40 - 1) && ltb q rows && is_in q v.fresh) (is_new_tree passes rows ws v.fresh old new) ok in
-      let b = and_parts (ltb pin.0 (2 ^ 40 - 1) && ltb q rows) (is_in q v.fresh) a.0 in
+      let a = and_parts (ltb pin.0 LAST_VERSION && ltb q rows && is_in q v.fresh) (is_new_tree passes rows ws v.fresh old new) ok in
+      let b = and_parts (ltb pin.0 LAST_VERSION && ltb q rows) (is_in q v.fresh) a.0 in
       let c = and_parts (are_linked passes rows ws new && all_different new) (list_all (λ x. is_in x v.fresh || is_in x old) new) a.1 in
       let d = and_parts (are_linked passes rows ws new) (all_different new) c.0 in
       publishes passes rows ws vs cs sound k k v at mine pin.0 pin.1 q pinned (eqb-true (slice_index ws 0) (root_word pin.0 pin.1) is) (omega arith)
@@ -97,9 +98,9 @@ module _ (passes rows : ℕ) (few : rows ≤ 262144) (ws : List ℕ) (vs : List 
   event_sound (Read k r p) v at mine ok = reads passes rows ws vs cs sound k k v at mine (cell passes rows ws r p)
   event_sound (Take k r) v at mine ok = take_as k r v (eqb (owner passes rows ws r) 0) at mine (ltb-true r rows ok) refl
   event_sound (Write k r p w) v at mine ok =
-      let a = and_parts (ltb r rows && ltb p 40) (is_in r v.fresh) ok in
-      let b = and_parts (ltb r rows) (ltb p 40) a.0 in
-      writes passes rows ws vs cs sound k k v at mine r p w (ltb-true p 40 b.1) (ltb-true 0 (times r v.fresh) a.1)
+      let a = and_parts (ltb r rows && ltb p WIDTH) (is_in r v.fresh) ok in
+      let b = and_parts (ltb r rows) (ltb p WIDTH) a.0 in
+      writes passes rows ws vs cs sound k k v at mine r p w (ltb-true p WIDTH b.1) (ltb-true 0 (times r v.fresh) a.1)
   event_sound (Publish k q) v at mine ok = publish_as k q v v.pinned (finds_pinned passes rows ws v.pinned) at mine refl ok refl
   event_sound (Unpin k) v at mine ok = let pin = some_from v.pinned ok in unpins passes rows ws vs cs sound k k v at mine pin.0.0 pin.0.1 pin.1
   event_sound (Look k j) v at mine ok =
@@ -143,7 +144,7 @@ number_after passes rows ws v (Free k r) = either (is_in r v.fresh) (record v { 
 
 -- each version has all words of its rows
 abbrev pub AreWhole : List Copy → Type 0
-AreWhole cs = (n : ℕ) (c : Copy) → get_elem? cs n ≡ some c → (r p : ℕ) → In r c.rows → p < 40 → is_some (look_up c.cells r p) ≡ true
+AreWhole cs = (n : ℕ) (c : Copy) → get_elem? cs n ≡ some c → (r p : ℕ) → In r c.rows → p < WIDTH → is_some (look_up c.cells r p) ≡ true
 
 whole_after : (passes rows : ℕ) (ws : List ℕ) (v : View) (cs : List Copy) (e : Event) → AreWhole cs → AreWhole (versions_after passes rows ws v cs e)
 whole_after passes rows ws v cs (Publish k q) whole = more (finds_pinned passes rows ws v.pinned)
@@ -204,7 +205,7 @@ play_sound [] m cs is_sound = is_sound
 play_sound (e ∷ es) m cs is_sound = play_sound es (after m e) (copies_after m cs e) (after_sound m cs e is_sound)
 
 -- every schedule from the start
-pub every_schedule : (rows passes : ℕ) (es : List Event) → 0 < rows → rows ≤ 262144 → IsSound (play es (start rows passes)) (copies es (start rows passes) (start_copies rows passes))
+pub every_schedule : (rows passes : ℕ) (es : List Event) → 0 < rows → rows ≤ MOST_ROWS → IsSound (play es (start rows passes)) (copies es (start rows passes) (start_copies rows passes))
 every_schedule rows passes es some_row few = play_sound es (start rows passes) (start_copies rows passes) (starts passes rows some_row few)
 
 -- a list of events and one more

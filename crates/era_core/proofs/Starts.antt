@@ -1,9 +1,10 @@
 -- The start is sound.
-use Rattle.std.proofs.Common.{◌≡◌, ◌≢◌, ℕ, zero, suc, ◌+◌, ◌/◌, ◌%◌, ◌^◌, ◌<◌, ◌≤◌, ⊎_elim, min, true, List, [], ◌∷◌, flat_map, length, set, slice_index, replicate, refl, sym, ap, subst, ◌∙◌, arith, length-set}
+use Rattle.std.proofs.Common.{◌≡◌, ◌≢◌, ℕ, zero, suc, ◌+◌, ◌/◌, ◌%◌, ◌<◌, ◌≤◌, ⊎_elim, min, true, List, [], ◌∷◌, flat_map, length, set, slice_index, replicate, refl, sym, ap, subst, ◌∙◌, arith, length-set}
 use Rattle.std.specs.Prelude.{is_some}
 use Rattle.std.proofs.lemmas.List.{length-replicate}
 use Rattle.std.proofs.lemmas.Bool.{cases_eq}
 use Rattle.std.proofs.lemmas.Option.{same_Some, none-some}
+use Rattle.era_core.specs.declared.sizes.TheConstants.{MOST_LINKS, KINDS, ROOT_ROWS, MOST_ROWS, MOST_PASSES}
 use Rattle.era_core.specs.Lists.{times, In, total, tree}
 use Rattle.era_core.specs.Words.{version, root_row, words_len, owner_at, reservation_at, cell_at, reservation, owner, cell, links, run_of, tree_at, live, start_words}
 use Rattle.era_core.specs.Views.{View, start_view, held}
@@ -65,10 +66,10 @@ module _ (passes rows : ℕ) where
   start_cell some_row x p = owner_keeps_cell passes rows zeros 0 1 x p some_row ∙ blank (words_len passes rows) (cell_at passes rows x p)
 
   pub start_version : version ws ≡ 0
-  start_version = ap (λ w. w / 2 ^ 24) start_root
+  start_version = ap (λ w. w / ROOT_ROWS) start_root
 
   pub start_row : root_row ws ≡ 0
-  start_row = ap (λ w. w % 2 ^ 24) start_root
+  start_row = ap (λ w. w % ROOT_ROWS) start_root
 
   lone : (f : ℕ → List ℕ) (depth : ℕ) → f 0 ≡ [] → tree f depth 0 ≡ 0 ∷ []
   lone f zero none = refl
@@ -80,7 +81,7 @@ module _ (passes rows : ℕ) where
       ∙ lone (links passes rows ws) rows (ap (λ w. links_by_count w) (start_cell some_row 0 0))
     where
       links_by_count : ℕ → List ℕ
-      links_by_count w = run_of (cell passes rows ws 0) 1 (min 39 (w / 4))
+      links_by_count w = run_of (cell passes rows ws 0) 1 (min MOST_LINKS (w / KINDS))
 
   fits_start : (i : ℕ) → i < passes → Fits passes rows ws (start_views 0 passes) (start_copies rows passes) (start_view i)
   fits_start i pass = record {
@@ -134,7 +135,7 @@ module _ (passes rows : ℕ) where
     closed = λ n c there. subst (IsClosed rows) (one_copy n c there) (copy_closed passes rows ws 0 (start_once some_row));
   }
 
-  pub starts : 0 < rows → rows ≤ 262144 → IsSound (start rows passes) (start_copies rows passes)
+  pub starts : 0 < rows → rows ≤ MOST_ROWS → IsSound (start rows passes) (start_copies rows passes)
   starts some_row few = record {
     few = few;
     counted = length-start_views 0 passes;
@@ -155,7 +156,7 @@ module _ (passes rows : ℕ) where
       first_owner : owner passes rows ws 0 ≤ 1
       first_owner = small zeros (owner_at passes rows 0) (blank (words_len passes rows) (owner_at passes rows 0))
 
-  pub start_running : 0 < rows → rows ≤ 262144 → 0 < passes → passes ≤ 64 → IsRunning (start rows passes)
+  pub start_running : 0 < rows → rows ≤ MOST_ROWS → 0 < passes → passes ≤ MOST_PASSES → IsRunning (start rows passes)
   start_running some_row few some_pass few_passes = record {
     some_row = some_row;
     few_rows = few;
@@ -168,7 +169,7 @@ module _ (passes rows : ℕ) where
   }
 
   -- the same of a machine with these words and views
-  pub running_as : (words : List ℕ) (views : List View) → words ≡ start_words passes rows → views ≡ start_views 0 passes → 0 < rows → rows ≤ 262144 → 0 < passes → passes ≤ 64
+  pub running_as : (words : List ℕ) (views : List View) → words ≡ start_words passes rows → views ≡ start_views 0 passes → 0 < rows → rows ≤ MOST_ROWS → 0 < passes → passes ≤ MOST_PASSES
       → IsRunning (record { rows = rows; passes = passes; words = words; views = views })
   running_as words views same_words same_views some_row few some_pass few_passes =
       let P : List ℕ → Type 0 = λ x. IsRunning (record { rows = rows; passes = passes; words = x; views = views }) in

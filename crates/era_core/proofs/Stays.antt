@@ -1,5 +1,6 @@
 -- A step that leaves all that other passes can read: the root, their reservations, and the words of live and retired rows.
-use Rattle.std.proofs.Common.{◌≡◌, ◌≢◌, ℕ, ◌+◌, ◌/◌, ◌%◌, ◌^◌, ◌<◌, ◌⊎◌, ⊎_elim, inl, inr, Some, List, length, set, slice_index, sym, ap, subst, ◌∙◌, arith}
+use Rattle.std.proofs.Common.{◌≡◌, ◌≢◌, ℕ, ◌+◌, ◌/◌, ◌%◌, ◌<◌, ◌⊎◌, ⊎_elim, inl, inr, Some, List, length, set, slice_index, sym, ap, subst, ◌∙◌, arith}
+use Rattle.era_core.specs.declared.sizes.TheConstants.{WIDTH, ROOT_ROWS}
 use Rattle.era_core.specs.Lists.{times, In, total}
 use Rattle.era_core.specs.Words.{version, root_row, reservation, cell, tree_at, live}
 use Rattle.era_core.specs.Views.{Batch, View, rows_in, late, held}
@@ -22,7 +23,7 @@ module _ (passes rows : ℕ) where
     pub long : length us ≡ length ws
     pub root : slice_index us 0 ≡ slice_index ws 0
     pub others : (j : ℕ) → j < passes → j ≢ k → reservation passes rows us j ≡ reservation passes rows ws j
-    pub cells : (x p : ℕ) → IsShared ws vs x → p < 40 → cell passes rows us x p ≡ cell passes rows ws x p
+    pub cells : (x p : ℕ) → IsShared ws vs x → p < WIDTH → cell passes rows us x p ≡ cell passes rows ws x p
     pub before : v.number ≡ Some k
     pub number : w.number ≡ Some k
     pub retired : w.retired ≡ v.retired
@@ -34,11 +35,11 @@ module _ (passes rows : ℕ) where
   module _ (ws us : List ℕ) (vs : List View) (cs : List Copy) (sound : Sound passes rows ws vs cs) (i k : ℕ) (v w : View)
       (at : get_elem? vs i ≡ some v) (leaves : LeavesShared ws us vs k v w) where
     pub version_same : version us ≡ version ws
-    version_same = ap (λ x. x / 2 ^ 24) leaves.root
+    version_same = ap (λ x. x / ROOT_ROWS) leaves.root
 
     pub live_same : live passes rows us ≡ live passes rows ws
     live_same =
-        ap (λ x. tree_at passes rows us (x % 2 ^ 24)) leaves.root
+        ap (λ x. tree_at passes rows us (x % ROOT_ROWS)) leaves.root
         ∙ tree_stays passes rows ws us (root_row ws) (λ x p here place. leaves.cells x p (omega arith) place)
 
     -- what is summed of retired rows over all views
@@ -115,7 +116,7 @@ module _ (passes rows : ℕ) where
         record {
           long = leaves.long ∙ sound.long;
           counted = sound.counted ∙ ap (λ x. x + 1) (sym version_same);
-          rooted = λ c there. sound.rooted c (ap (λ n. get_elem? cs n) (sym version_same) ∙ there) ∙ ap (λ x. x % 2 ^ 24) (sym leaves.root);
+          rooted = λ c there. sound.rooted c (ap (λ n. get_elem? cs n) (sym version_same) ∙ there) ∙ ap (λ x. x % ROOT_ROWS) (sym leaves.root);
           stands = λ c there.
               let was = ap (λ n. get_elem? cs n) (sym version_same) ∙ there in
               stands_same (version ws) c was (λ x in_it. let e = sound.current c was in let l : In x (live passes rows ws) = subst (In x) e in_it in omega arith) (sound.stands c was);

@@ -2,6 +2,7 @@
 use Rattle.std.proofs.Common.{◌≡◌, ◌≢◌, ℕ, zero, suc, ◌+◌, ◌-◌, ◌^◌, ◌<◌, ◌≤◌, ⊎_elim, false, cond, eqb, List, [], ◌∷◌, ◌++◌, flat_map, map, reverse, length, refl, sym, ap, subst, ◌∙◌, arith, append_assoc, ne_eqb}
 use Rattle.std.proofs.lemmas.Bool.{cases_eq}
 use Rattle.std.proofs.lemmas.List.{append-nil, reverse-append}
+use Rattle.era_core.specs.declared.sizes.TheConstants.{MOST_ROWS}
 use Rattle.era_core.specs.Lists.{times, In, tree}
 use Rattle.era_core.specs.Words.{run_of}
 use Rattle.era_core.proofs.ListFacts.{times-tail, in_head, in_tail, in-append_left}
@@ -112,7 +113,7 @@ module _ (links : ℕ → List ℕ) where
     pub top_inside : r < rows
     top_inside = inside r (subst (λ xs. In r (pending links xs)) (sym popped) (pending-top_in rest r levels))
 
-    pub links_inside : rows ≤ 262144 → 0 < levels → (y : ℕ) → In y (links r) → y < 2 ^ 32
+    pub links_inside : rows ≤ MOST_ROWS → 0 < levels → (y : ℕ) → In y (links r) → y < 2 ^ 32
     links_inside few some_level y link =
         let row = inside y (subst (λ xs. In y (pending links xs)) (sym popped) (pending-links_in rest r levels y some_level link)) in
         omega arith

@@ -1,18 +1,19 @@
 -- A store of one word leaves all others as they are.
 use Rattle.std.proofs.Common.{◌≡◌, ◌≢◌, ℕ, zero, suc, ◌+◌, ◌/◌, ◌<◌, min, List, ◌∷◌, length, set, slice_index, refl, ap, ◌∙◌, arith, get_or-set_same, get_or-set_other}
+use Rattle.era_core.specs.declared.sizes.TheConstants.{WIDTH, MOST_LINKS, KINDS}
 use Rattle.era_core.specs.Words.{run_of, links_by, reservation_at, owner_at, cell_at, words_len, reservation, owner, cell}
 
--- the links of a row are given by its first 40 words
+-- the links of a row are given by its words
 pub run_of-same : (f g : ℕ → ℕ) (p n : ℕ) → ((q : ℕ) → q < p + n → f q ≡ g q) → run_of f p n ≡ run_of g p n
 run_of-same f g p zero same = refl
 run_of-same f g p (suc n) same =
     ap (λ x. x ∷ run_of f (p + 1) n) (same p (omega arith)) ∙ ap (λ xs. g p ∷ xs) (run_of-same f g (p + 1) n (λ q below. same q (omega arith)))
 
-pub links_by-counted : (f g : ℕ → ℕ) → ((p : ℕ) → p < 1 + min 39 (f 0 / 4) → f p ≡ g p) → links_by f ≡ links_by g
+pub links_by-counted : (f g : ℕ → ℕ) → ((p : ℕ) → p < 1 + min MOST_LINKS (f 0 / KINDS) → f p ≡ g p) → links_by f ≡ links_by g
 links_by-counted f g same =
-    run_of-same f g 1 (min 39 (f 0 / 4)) same ∙ ap (λ w. run_of g 1 (min 39 (w / 4))) (same 0 (omega arith))
+    run_of-same f g 1 (min MOST_LINKS (f 0 / KINDS)) same ∙ ap (λ w. run_of g 1 (min MOST_LINKS (w / KINDS))) (same 0 (omega arith))
 
-pub links_by-same : (f g : ℕ → ℕ) → ((p : ℕ) → p < 40 → f p ≡ g p) → links_by f ≡ links_by g
+pub links_by-same : (f g : ℕ → ℕ) → ((p : ℕ) → p < WIDTH → f p ≡ g p) → links_by f ≡ links_by g
 links_by-same f g same = links_by-counted f g (λ p below. same p (omega arith))
 
 module _ (passes rows : ℕ) where
@@ -58,7 +59,7 @@ module _ (passes rows : ℕ) where
   pub cell_keeps_owner : (ws : List ℕ) (r p w x : ℕ) → x < rows → owner passes rows (set ws (cell_at passes rows r p) w) x ≡ owner passes rows ws x
   cell_keeps_owner ws r p w x row = get_or-set_other ws (cell_at passes rows r p) (owner_at passes rows x) w 0 (λ e. omega arith)
 
-  pub cell_keeps_other : (ws : List ℕ) (r p w x q : ℕ) → p < 40 → q < 40 → x ≢ r → cell passes rows (set ws (cell_at passes rows r p) w) x q ≡ cell passes rows ws x q
+  pub cell_keeps_other : (ws : List ℕ) (r p w x q : ℕ) → p < WIDTH → q < WIDTH → x ≢ r → cell passes rows (set ws (cell_at passes rows r p) w) x q ≡ cell passes rows ws x q
   cell_keeps_other ws r p w x q place other apart = get_or-set_other ws (cell_at passes rows r p) (cell_at passes rows x q) w 0 (λ e. apart (omega arith))
 
   -- a store of the root

@@ -18,6 +18,10 @@ is_in x xs = nat_lt 0 (times x xs)
 abbrev pub all_different : List ℕ → Bool
 all_different xs = list_all (λ x. times x xs == 1) xs
 
+-- each link of a row of the list is a row of the list too
+abbrev pub AreClosed : (ℕ → List ℕ) → List ℕ → Type 0
+AreClosed links xs = (x y : ℕ) → In x xs → In y (links x) → In y xs
+
 -- the second list without the rows of the first
 abbrev pub without : List ℕ → List ℕ → List ℕ
 without gone xs = filter (λ x. not (is_in x gone)) xs

@@ -1,6 +1,7 @@
 -- The machine: its words and one view for each pass, the ten events, and what a list of events leaves.
-use Rattle.std.specs.Prelude.{◌≡◌, ◌≢◌, ℕ, zero, suc, ◌+◌, ◌-◌, ◌/◌, ◌^◌, ◌<◌, ◌≤◌, Bool, true, false, ◌&&◌, ◌||◌, nat_lt, nat_le, ◌==◌, if◌then◌else◌, Option, Some, None, is_none, is_some, option_map, option_and_then, unwrap_or, not, List, [], ◌∷◌, ◌++◌, length, slice_index, slice_index_or, slice_set, slice_get}
+use Rattle.std.specs.Prelude.{◌≡◌, ◌≢◌, ℕ, zero, suc, ◌+◌, ◌/◌, ◌<◌, ◌≤◌, Bool, true, false, ◌&&◌, ◌||◌, nat_lt, nat_le, ◌==◌, if◌then◌else◌, Option, Some, None, is_none, is_some, option_map, option_and_then, unwrap_or, not, List, [], ◌∷◌, ◌++◌, length, slice_index, slice_index_or, slice_set, slice_get}
 use Rattle.std.specs.List.{list_all, list_any}
+use Rattle.era_core.specs.declared.sizes.TheConstants.{WIDTH, MOST_LINKS, KINDS, LAST_VERSION, MOST_ROWS, MOST_PASSES}
 use Rattle.era_core.specs.Lists.{is_in, all_different, In}
 use Rattle.era_core.specs.Words.{words_len, root_word, version, root_row, reservation_at, owner_at, cell_at, reservation, owner, cell, links, tree_at, start_words}
 use Rattle.era_core.specs.Views.{View, start_view, clears, noting, pinning, reading, taking, publishing, unpinning, looking, freeing}
@@ -32,7 +33,7 @@ module _ (passes rows : ℕ) where
 
   -- no row of these claims more links than it has words for, and each link is a row
   abbrev pub are_linked : List ℕ → List ℕ → Bool
-  are_linked ws xs = list_all (λ x. nat_le (cell passes rows ws x 0 / 4) 39 && list_all (λ y. nat_lt y rows) (links passes rows ws x)) xs
+  are_linked ws xs = list_all (λ x. nat_le (cell passes rows ws x 0 / KINDS) MOST_LINKS && list_all (λ y. nat_lt y rows) (links passes rows ws x)) xs
 
   -- the rows of a new tree: a tree indeed, each of them fresh or of the old tree
   abbrev pub is_new_tree : List ℕ → List ℕ → List ℕ → List ℕ → Bool
@@ -42,7 +43,7 @@ module _ (passes rows : ℕ) where
   abbrev pub may_publish : List ℕ → View → ℕ → Option (ℕ × ℕ) → Bool
   may_publish ws v q None = false
   may_publish ws v q (Some pin) =
-      nat_lt pin.0 (2 ^ 40 - 1) && nat_lt q rows && is_in q v.fresh
+      nat_lt pin.0 LAST_VERSION && nat_lt q rows && is_in q v.fresh
       && is_new_tree ws v.fresh (tree_at passes rows ws pin.1) (tree_at passes rows ws q)
 
   -- whether the pass with this view may do the event
@@ -50,9 +51,9 @@ module _ (passes rows : ℕ) where
   may ws v (Note k) = is_none v.pinned && (reservation passes rows ws k == 0)
   may ws v (Announce k) = is_some v.noted && (reservation passes rows ws k == 0)
   may ws v (Pin k) = is_none v.pinned && nat_lt 0 (reservation passes rows ws k)
-  may ws v (Read k r p) = nat_lt r rows && nat_lt p 40 && (is_in r v.fresh || is_in r (pinned_rows ws v.pinned))
+  may ws v (Read k r p) = nat_lt r rows && nat_lt p WIDTH && (is_in r v.fresh || is_in r (pinned_rows ws v.pinned))
   may ws v (Take k r) = nat_lt r rows
-  may ws v (Write k r p w) = nat_lt r rows && nat_lt p 40 && is_in r v.fresh
+  may ws v (Write k r p w) = nat_lt r rows && nat_lt p WIDTH && is_in r v.fresh
   may ws v (Publish k q) = may_publish ws v q v.pinned
   may ws v (Unpin k) = is_some v.pinned
   may ws v (Look k j) = nat_lt j passes && ((j == 0) || (j == v.scanned))
@@ -200,24 +201,24 @@ keeps_pin k e = true
 
 -- the machine with these versions is sound, its views stand in the order of their passes, and each version has all words of its rows
 pub record IsSound (m : Machine) (cs : List Copy) : Type 0 where
-  pub few : m.rows ≤ 262144
+  pub few : m.rows ≤ MOST_ROWS
   pub counted : length m.views ≡ m.passes
   pub ordered : (k : ℕ) (v : View) → get_elem? m.views k ≡ some v → v.number ≡ Some k
   pub sound : Sound m.passes m.rows m.words m.views cs
-  pub whole : (n : ℕ) (c : Copy) → get_elem? cs n ≡ some c → (r p : ℕ) → In r c.rows → p < 40 → is_some (look_up c.cells r p) ≡ true
+  pub whole : (n : ℕ) (c : Copy) → get_elem? cs n ≡ some c → (r p : ℕ) → In r c.rows → p < WIDTH → is_some (look_up c.cells r p) ≡ true
 
 -- the version with this root row stands later as it did: the same rows, none of them free, with the same words
 pub record VersionStands (m later : Machine) (root : ℕ) : Type 0 where
   pub tree : tree_of later root ≡ tree_of m root
   pub owned : (r : ℕ) → In r (tree_of m root) → owner_of later r ≢ 0
-  pub words : (r p : ℕ) → In r (tree_of m root) → p < 40 → cell_of later r p ≡ cell_of m r p
+  pub words : (r p : ℕ) → In r (tree_of m root) → p < WIDTH → cell_of later r p ≡ cell_of m r p
 
 -- What the running machine keeps: its sizes, owners that are passes, and that some versions make it sound
 pub record IsRunning (m : Machine) : Type 0 where
   pub some_row : 0 < m.rows
-  pub few_rows : m.rows ≤ 262144
+  pub few_rows : m.rows ≤ MOST_ROWS
   pub some_pass : 0 < m.passes
-  pub few_passes : m.passes ≤ 64
+  pub few_passes : m.passes ≤ MOST_PASSES
   pub long : length m.words ≡ words_len m.passes m.rows
   pub counted : length m.views ≡ m.passes
   pub owners : (r : ℕ) → r < m.rows → owner_of m r ≤ m.passes

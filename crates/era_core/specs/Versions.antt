@@ -1,5 +1,6 @@
 -- Versions: copies of the trees that were published. The running words keep none of them.
 use Rattle.std.specs.Prelude.{◌≡◌, ℕ, zero, suc, ◌+◌, ◌/◌, ◌<◌, ◌≤◌, min, true, ◌&&◌, ◌==◌, if◌then◌else◌, Option, Some, None, is_some, unwrap_or, List, [], ◌∷◌, flat_map}
+use Rattle.era_core.specs.declared.sizes.TheConstants.{WIDTH, MOST_LINKS, KINDS}
 use Rattle.era_core.specs.Lists.{times, In, tree}
 use Rattle.era_core.specs.Words.{links_by, cell, tree_at}
 use mathlib.Core.Option.{some}
@@ -31,14 +32,14 @@ known_links cells r = links_by (known cells r)
 
 -- the cells have word 0 of the row and each link that it counts
 abbrev pub Covers : List Cell → ℕ → Type 0
-Covers cells r = (p : ℕ) → p < 1 + min 39 (known cells r 0 / 4) → is_some (look_up cells r p) ≡ true
+Covers cells r = (p : ℕ) → p < 1 + min MOST_LINKS (known cells r 0 / KINDS) → is_some (look_up cells r p) ≡ true
 
 -- the copy has words of its rows alone, and at least those that the tree at its root is made of; its rows are that tree's,
 -- and no row stands there twice
 pub record IsClosed (rows : ℕ) (c : Copy) : Type 0 where
   pub once : (r : ℕ) → times r c.rows ≤ 1
   pub within : (i : ℕ) (x : Cell) → get_elem? c.cells i ≡ some x → In x.row c.rows
-  pub placed : (i : ℕ) (x : Cell) → get_elem? c.cells i ≡ some x → x.place < 40
+  pub placed : (i : ℕ) (x : Cell) → get_elem? c.cells i ≡ some x → x.place < WIDTH
   pub covers : (r : ℕ) → In r c.rows → Covers c.cells r
   pub is_tree : c.rows ≡ tree (known_links c.cells) rows c.root
 
@@ -54,4 +55,4 @@ module _ (passes rows : ℕ) where
 
   -- the tree at the row as it stands, with all words of its rows
   abbrev pub copy_at : List ℕ → ℕ → Copy
-  copy_at ws r = record { root = r; rows = tree_at passes rows ws r; cells = flat_map (λ x. cells_from ws x 0 40) (tree_at passes rows ws r) }
+  copy_at ws r = record { root = r; rows = tree_at passes rows ws r; cells = flat_map (λ x. cells_from ws x 0 WIDTH) (tree_at passes rows ws r) }

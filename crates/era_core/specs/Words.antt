@@ -1,26 +1,27 @@
--- The word arena: the root, one reservation for each pass, one owner for each row, and the rows of 40 words.
+-- The word arena: the root, one reservation for each pass, one owner for each row, and the words of each row.
 -- A reservation is a hazard era: the version from which on its pass may read.
-use Rattle.std.specs.Prelude.{ℕ, zero, suc, ◌+◌, ◌*◌, ◌/◌, ◌%◌, ◌^◌, min, List, [], ◌∷◌, slice_index, slice_set, replicate}
+use Rattle.std.specs.Prelude.{ℕ, zero, suc, ◌+◌, ◌*◌, ◌/◌, ◌%◌, min, List, [], ◌∷◌, slice_index, slice_set, replicate}
+use Rattle.era_core.specs.declared.sizes.TheConstants.{WIDTH, MOST_LINKS, KINDS, ROOT_ROWS}
 use Rattle.era_core.specs.Lists.{tree}
 
 -- the root word: a version, and the row at which its tree stands
 abbrev pub root_word : ℕ → ℕ → ℕ
-root_word n r = n * 2 ^ 24 + r
+root_word n r = n * ROOT_ROWS + r
 
 abbrev pub version : List ℕ → ℕ
-version ws = slice_index ws 0 / 2 ^ 24
+version ws = slice_index ws 0 / ROOT_ROWS
 
 abbrev pub root_row : List ℕ → ℕ
-root_row ws = slice_index ws 0 % 2 ^ 24
+root_row ws = slice_index ws 0 % ROOT_ROWS
 
 -- so many values of f, from p on
 abbrev pub run_of : (ℕ → ℕ) → ℕ → ℕ → List ℕ
 run_of f p zero = []
 run_of f p (suc n) = f p ∷ run_of f (p + 1) n
 
--- the links of a row whose words f gives: words 1 to n, where n is word 0 divided by 4, and 39 at most
+-- the links of a row whose words f gives: words 1 to n, where n is what word 0 counts, and as many as there is room for at most
 abbrev pub links_by : (ℕ → ℕ) → List ℕ
-links_by f = run_of f 1 (min 39 (f 0 / 4))
+links_by f = run_of f 1 (min MOST_LINKS (f 0 / KINDS))
 
 module _ (passes rows : ℕ) where
   -- where the words stand
@@ -31,11 +32,11 @@ module _ (passes rows : ℕ) where
   owner_at r = 1 + passes + r
 
   abbrev pub cell_at : ℕ → ℕ → ℕ
-  cell_at r p = 1 + passes + rows + 40 * r + p
+  cell_at r p = 1 + passes + rows + WIDTH * r + p
 
   -- how many words there are
   abbrev pub words_len : ℕ
-  words_len = 1 + passes + rows + 40 * rows
+  words_len = 1 + passes + rows + WIDTH * rows
 
   -- the reservation of a pass: 0 for none, n + 1 for version n
   abbrev pub reservation : List ℕ → ℕ → ℕ

@@ -1,7 +1,7 @@
 //! The machine as it runs.
 
 ghost use Rattle.std.specs.Prelude.{◌≡◌, ◌<◌, ◌≤◌, map, replicate, false, IfOk, OnOk, OnErr, IfErr, None};
-ghost use Rattle.era_core.specs.Words.{version, root_row, reservation, start_words};
+ghost use Rattle.era_core.specs.Words.{version, root_row, reservation};
 ghost use Rattle.era_core.specs.Machine.{start, start_views, start_copies, owner_of, cell_of, last_of, allows, after, play, copies, first_refused, IsSound};
 ghost use Rattle.era_core.specs.Refusals.{IsFirstRefused};
 ghost use Rattle.era_core.specs.Passes.{view_of};
@@ -12,20 +12,10 @@ mod steps;
 use crate::event::Event;
 use crate::pass::PassView;
 use crate::play::PlayRefusal;
+use crate::sizes::{MOST_PASSES, MOST_ROWS, ROOT_ROWS, WIDTH};
+use crate::words::first_words;
 use std::alloc::{AllocError, Global};
 use std::marker::Model;
-
-// The words at the start.
-fn first_words(alloc: Global, rows: u32, passes: u32) -> Result<Vec<u64>, AllocError>
-    requires few_rows { rows ≤ 262144 }
-    requires few_passes { passes ≤ 64 }
-    requires some_row { 0 < rows }
-    ensures { IfOk result (λ words. words.items ≡ start_words passes rows) }
-{
-    let mut words = vec![in alloc; 0; 1 + passes as usize + rows as usize + 40 * rows as usize]?;
-    words[1 + passes as usize] = 1;
-    Ok(words)
-}
 
 // The views at the start, in the order of their passes.
 fn first_views(alloc: Global, passes: u32) -> Result<Vec<PassView>, AllocError>
@@ -69,13 +59,13 @@ impl Model for Core {
 }
 
 impl Core {
-    /// The machine at its start, with so many rows, 1 to 262,144, and passes, 1 to 64. Row 0 is the empty leaf that
-    /// version 0 consists of, and every other row is free.
+    /// The machine at its start, with so many rows, 1 to [`MOST_ROWS`], and passes, 1 to [`MOST_PASSES`]. Row 0 is the
+    /// empty leaf that version 0 consists of, and every other row is free.
     pub fn start(alloc: Global, rows: u32, passes: u32) -> Result<Core, AllocError>
         requires some_row { 0 < rows }
-        requires few_rows { rows ≤ 262144 }
+        requires few_rows { rows ≤ MOST_ROWS }
         requires some_pass { 0 < passes }
-        requires few_passes { passes ≤ 64 }
+        requires few_passes { passes ≤ MOST_PASSES }
         ensures { IfOk result (λ core. core ≡ start rows passes) }
     {
         let words = first_words(alloc, rows, passes)?;
@@ -115,8 +105,8 @@ impl Core {
         }
     }
 
-    /// Plays the events from the start, with so many rows, 1 to 262,144, and passes, 1 to 64. `Illegal` comes exactly
-    /// where an event is not allowed, with the index of the first; else the machine is as the events leave it, and
+    /// Plays the events from the start, with so many rows, 1 to [`MOST_ROWS`], and passes, 1 to [`MOST_PASSES`].
+    /// `Illegal` comes exactly where an event is not allowed, with the index of the first; else the machine is as the events leave it, and
     /// sound with the versions that they published.
     pub fn play(
         alloc: Global,
@@ -125,9 +115,9 @@ impl Core {
         events: &[Event],
     ) -> Result<Core, PlayRefusal>
         requires some_row { 0 < rows }
-        requires few_rows { rows ≤ 262144 }
+        requires few_rows { rows ≤ MOST_ROWS }
         requires some_pass { 0 < passes }
-        requires few_passes { passes ≤ 64 }
+        requires few_passes { passes ≤ MOST_PASSES }
         ensures played { IfOk result (λ core. core ≡ play events.now (start rows passes)) }
         ensures sound { IfOk result (λ core. IsSound core (copies events.now (start rows passes) (start_copies rows passes))) }
         ensures rows { IfOk result (λ core. core.rows ≡ rows) }
@@ -153,7 +143,7 @@ impl Core {
         ensures { result ≡ (version self.now.words, root_row self.now.words) }
     {
         let word = self.words[0];
-        (word / 16_777_216, (word % 16_777_216) as u32)
+        (word / ROOT_ROWS, (word % ROOT_ROWS) as u32)
     }
 
     /// The owner of a row: 0 where it is free, and the number of its pass and 1 else.
@@ -175,10 +165,10 @@ impl Core {
     /// The word of a row at a place below [`WIDTH`](crate::WIDTH).
     pub fn cell(&self, row: u32, place: u32) -> u64
         requires row_in_range { row < self.now.rows }
-        requires place_in_range { place < 40 }
+        requires place_in_range { place < WIDTH }
         ensures { result ≡ cell_of self.now row place }
     {
-        let first = 1 + self.passes as usize + self.rows as usize + 40 * row as usize;
+        let first = 1 + self.passes as usize + self.rows as usize + WIDTH as usize * row as usize;
         self.words[first + place as usize]
     }
 

@@ -3,15 +3,17 @@
 
 ghost use Rattle.std.specs.Prelude.{◌≡◌, ◌≢◌, ℕ, ◌<◌, ◌≤◌, Some, IsTrue, List};
 ghost use Rattle.std.specs.List.{list_all};
-ghost use Rattle.era_core.specs.Lists.{In};
+ghost use Rattle.era_core.specs.Lists.{times, In, AreClosed, tree};
 ghost use Rattle.era_core.specs.Versions.{Copy};
 ghost use Rattle.era_core.specs.Machine.{Machine, IsSound, VersionStands, start, start_copies, play, copies, after, copies_after, allows, owner_of, cell_of, tree_of, pin_of, fresh_of, last_of, published_word, keeps_pin};
 ghost use Rattle.era_core.specs.declared.event.Event.{Event};
 ghost use Rattle.era_core.specs.declared.event.Event.TheVariants.{Read, Take};
 
+use crate::sizes::{MOST_ROWS, WIDTH};
+
 /// Whatever the passes do from the start on, and in whatever order, the machine is sound.
 pub fn schedules_are_sound()
-    ensures { (rows passes : ℕ) (events : List Event) → 0 < rows → rows ≤ 262144
+    ensures { (rows passes : ℕ) (events : List Event) → 0 < rows → rows ≤ MOST_ROWS
         → IsSound (play events (start rows passes)) (copies events (start rows passes) (start_copies rows passes)) }
 {}
 
@@ -20,15 +22,22 @@ pub fn events_keep_soundness()
     ensures { (m : Machine) (cs : List Copy) (e : Event) → IsSound m cs → IsSound (after m e) (copies_after m cs e) }
 {}
 
+/// Where the rows of a tree are different, and each is a row, each link of one of its rows is one of its rows: nothing was
+/// cut from it.
+pub fn trees_are_closed()
+    ensures { (links : ℕ → List ℕ) (rows root : ℕ) → ((r : ℕ) → times r (tree links rows root) ≤ 1) → ((r : ℕ) → In r (tree links rows root) → r < rows)
+        → AreClosed links (tree links rows root) }
+{}
+
 /// A pinned pass may read each row of its tree, and reads the words of the version that it pinned.
 pub fn pinned_reads()
-    ensures { (m : Machine) (cs : List Copy) → IsSound m cs → (k n root r p : ℕ) → pin_of m k ≡ Some (n, root) → In r (tree_of m root) → p < 40
+    ensures { (m : Machine) (cs : List Copy) → IsSound m cs → (k n root r p : ℕ) → pin_of m k ≡ Some (n, root) → In r (tree_of m root) → p < WIDTH
         → IsTrue (allows m (Read k r p)) × (last_of (after m (Read k r p)) k ≡ published_word cs n r p) }
 {}
 
 /// A pass may read each of its fresh rows, and reads the words that stand there.
 pub fn fresh_reads()
-    ensures { (m : Machine) (cs : List Copy) → IsSound m cs → (k r p : ℕ) → In r (fresh_of m k) → p < 40
+    ensures { (m : Machine) (cs : List Copy) → IsSound m cs → (k r p : ℕ) → In r (fresh_of m k) → p < WIDTH
         → IsTrue (allows m (Read k r p)) × (last_of (after m (Read k r p)) k ≡ Some (cell_of m r p)) }
 {}
 

@@ -10,19 +10,24 @@
 mod arena;
 mod event;
 mod laws;
+mod lists;
 mod pass;
 mod play;
+mod reserved;
+mod sizes;
 #[cfg(test)]
 mod tests;
 mod walk;
+mod words;
 
 pub use arena::Core;
 pub use event::Event;
 pub use laws::{
     events_keep_soundness, fresh_reads, pinned_reads, schedules_are_sound, taken_rows_are_unread,
-    versions_stand,
+    trees_are_closed, versions_stand,
 };
+pub use lists::remove_row;
 pub use play::PlayRefusal;
-
-/// How many words a row has.
-pub const WIDTH: u32 = 40;
+pub use reserved::{is_clear, lesser};
+pub use sizes::{KINDS, LAST_VERSION, MOST_LINKS, MOST_PASSES, MOST_ROWS, ROOT_ROWS, WIDTH};
+pub use words::{first_words, packed};

@@ -3,9 +3,12 @@
 ghost use Rattle.std.specs.Prelude.{◌≡◌, ◌/◌, ◌%◌, ◌^◌, ◌&&◌, ◌||◌, ◌==◌, ◌<◌, [], ◌∷◌, length, nat_lt, is_none, is_some, is_ok, if◌then◌else◌};
 ghost use Rattle.std.specs.List.{list_any};
 ghost use Rattle.era_core.specs.Lists.{is_in, without};
-ghost use Rattle.era_core.specs.Views.{start_view, noting, pinning, looking, reading, taking, replacing, freeing, clears, without_row, lesser, reserved as named_by};
+ghost use Rattle.era_core.specs.Views.{start_view, noting, pinning, looking, reading, taking, replacing, freeing, clears, without_row};
 ghost use Rattle.era_core.specs.Passes.{batches_of, view_of};
 
+use crate::lists::{is_among, remove_row};
+use crate::reserved::{is_clear, lesser};
+use crate::sizes::ROOT_ROWS;
 use std::alloc::{AllocError, Global};
 
 /// Retired rows, and the version that was the last to have them.
@@ -29,37 +32,13 @@ impl Retired {
     fn has_cleared(&self, row: u32, least: Option<u64>) -> bool
         ensures { result ≡ (is_in row self.now.rows.items && clears least self.now.version) }
     {
-        is_among(row, &self.rows) && is_cleared(self.version, least)
+        is_among(row, &self.rows) && is_clear(least, self.version)
     }
 
     fn has_rows(&self) -> bool
         ensures { result ≡ nat_lt 0 (length self.now.rows.items) }
     {
         !self.rows.as_slice().is_empty()
-    }
-}
-
-// Whether the row stands among these.
-fn is_among(row: u32, rows: &[u32]) -> bool
-    ensures { result ≡ is_in row rows.now }
-{
-    rows.contains(&row)
-}
-
-// Drops a row from these.
-fn remove_row(rows: &mut Vec<u32>, row: u32)
-    ensures { rows.new.items ≡ without (row ∷ []) rows.old.items }
-{
-    rows.retain(|x| *x != row);
-}
-
-// Whether no reservation names the version or an earlier one, where this is the least version that one names.
-fn is_cleared(version: u64, least: Option<u64>) -> bool
-    ensures { result ≡ clears least version }
-{
-    match least {
-        None => true,
-        Some(least) => version < least,
     }
 }
 
@@ -96,12 +75,12 @@ impl PassView {
     /// Notes the version of this root word: false, and nothing changed, where the pass is pinned or has a reservation.
     pub(crate) fn note(&mut self, root: u64, reserved: u64) -> bool
         ensures done { result ≡ (is_none (view_of self.old).pinned && (reserved == 0)) }
-        ensures next { view_of self.new ≡ (if result then noting (root / 2 ^ 24) (view_of self.old) else view_of self.old) }
+        ensures next { view_of self.new ≡ (if result then noting (root / ROOT_ROWS) (view_of self.old) else view_of self.old) }
     {
         if self.pinned.is_some() || reserved != 0 {
             return false;
         }
-        self.noted = Some(root / 16_777_216);
+        self.noted = Some(root / ROOT_ROWS);
         true
     }
 
@@ -109,13 +88,13 @@ impl PassView {
     /// reservation.
     pub(crate) fn pin(&mut self, root: u64, reserved: u64) -> bool
         ensures done { result ≡ (is_none (view_of self.old).pinned && nat_lt 0 reserved) }
-        ensures next { view_of self.new ≡ (if result then pinning (root / 2 ^ 24) (root % 2 ^ 24) (view_of self.old) else view_of self.old) }
+        ensures next { view_of self.new ≡ (if result then pinning (root / ROOT_ROWS) (root % ROOT_ROWS) (view_of self.old) else view_of self.old) }
     {
         if self.pinned.is_some() || reserved == 0 {
             return false;
         }
         self.noted = None;
-        self.pinned = Some((root / 16_777_216, (root % 16_777_216) as u32));
+        self.pinned = Some((root / ROOT_ROWS, (root % ROOT_ROWS) as u32));
         true
     }
 
@@ -130,7 +109,7 @@ impl PassView {
         }
         let before = if other == 0 { None } else { self.least };
         self.scanned = other + 1;
-        self.least = lesser_of(before, reserved);
+        self.least = lesser(before, reserved);
         true
     }
 
@@ -213,17 +192,4 @@ fn remove_retired(batches: &mut Vec<Retired>, row: u32)
         remove_row(&mut batches[index].rows, row);
     }
     batches.retain(|batch| batch.has_rows());
-}
-
-// The lesser of a version and the one that a reservation names, where they are there.
-fn lesser_of(version: Option<u64>, reserved: u64) -> Option<u64>
-    ensures { result ≡ lesser version (named_by reserved) }
-{
-    if reserved == 0 {
-        return version;
-    }
-    match version {
-        None => Some(reserved - 1),
-        Some(least) => Some(least.min(reserved - 1)),
-    }
 }

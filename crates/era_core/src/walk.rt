@@ -8,6 +8,7 @@ ghost use Rattle.era_core.specs.Machine.{are_linked, is_new_tree};
 
 mod marks;
 
+use crate::sizes::{KINDS, MOST_LINKS, MOST_ROWS, WIDTH};
 pub(crate) use marks::{mark, rows_without};
 use std::alloc::{AllocError, Global};
 
@@ -15,20 +16,20 @@ use std::alloc::{AllocError, Global};
 fn word_at(words: &[u64], passes: u32, rows: u32, row: u32, place: u32) -> u64
     requires long { length words.now ≡ words_len passes rows }
     requires row_in_range { row < rows }
-    requires place_in_range { place < 40 }
+    requires place_in_range { place < WIDTH }
     ensures { result ≡ cell passes rows words.now row place }
 {
-    let first = 1 + passes as usize + rows as usize + 40 * row as usize;
+    let first = 1 + passes as usize + rows as usize + WIDTH as usize * row as usize;
     words[first + place as usize]
 }
 
-// How many links the row has, 39 at most.
+// How many links the row has, as many as it has room for at most.
 fn links_len(words: &[u64], passes: u32, rows: u32, row: u32) -> u32
     requires long { length words.now ≡ words_len passes rows }
     requires row_in_range { row < rows }
-    ensures { result ≡ min 39 (cell passes rows words.now row 0 / 4) }
+    ensures { result ≡ min MOST_LINKS (cell passes rows words.now row 0 / KINDS) }
 {
-    (word_at(words, passes, rows, row, 0) / 4).min(39) as u32
+    (word_at(words, passes, rows, row, 0) / KINDS).min(u64::from(MOST_LINKS)) as u32
 }
 
 // Puts the links of a row onto the stack, the first on top, each with one level less than the row has left.
@@ -65,7 +66,7 @@ pub(crate) fn tree_rows(
     root: u32,
 ) -> Result<Vec<u32>, AllocError>
     requires long { length words.now ≡ words_len passes rows }
-    requires few_rows { rows ≤ 262144 }
+    requires few_rows { rows ≤ MOST_ROWS }
     requires in_range { (x : ℕ) → In x (tree_at passes rows words.now root) → x < rows }
     ensures { IfOk result (λ found. found.items ≡ tree_at passes rows words.now root) }
 {
@@ -89,7 +90,7 @@ pub(crate) fn stands_in_tree(
     wanted: u32,
 ) -> Result<bool, AllocError>
     requires long { length words.now ≡ words_len passes rows }
-    requires few_rows { rows ≤ 262144 }
+    requires few_rows { rows ≤ MOST_ROWS }
     requires in_range { (x : ℕ) → In x (tree_at passes rows words.now root) → x < rows }
     ensures { IfOk result (λ found. found ≡ is_in wanted (tree_at passes rows words.now root)) }
 {
@@ -108,9 +109,9 @@ pub(crate) fn stands_in_tree(
 fn is_linked(words: &[u64], passes: u32, rows: u32, row: u32) -> bool
     requires long { length words.now ≡ words_len passes rows }
     requires row_in_range { row < rows }
-    ensures { result ≡ (nat_le (cell passes rows words.now row 0 / 4) 39 && list_all (λ y. nat_lt y rows) (links passes rows words.now row)) }
+    ensures { result ≡ (nat_le (cell passes rows words.now row 0 / KINDS) MOST_LINKS && list_all (λ y. nat_lt y rows) (links passes rows words.now row)) }
 {
-    if word_at(words, passes, rows, row, 0) / 4 > 39 {
+    if word_at(words, passes, rows, row, 0) / KINDS > u64::from(MOST_LINKS) {
         return false;
     }
     let count = links_len(words, passes, rows, row);
@@ -126,7 +127,7 @@ fn is_linked(words: &[u64], passes: u32, rows: u32, row: u32) -> bool
 fn may_come(words: &[u64], passes: u32, rows: u32, row: u32, marks: &[bool]) -> bool
     requires long { length words.now ≡ words_len passes rows }
     requires marks_len { length marks.now ≡ rows }
-    ensures come { result ≡ (slice_index_or marks.now row false && (nat_le (cell passes rows words.now row 0 / 4) 39 && list_all (λ y. nat_lt y rows) (links passes rows words.now row))) }
+    ensures come { result ≡ (slice_index_or marks.now row false && (nat_le (cell passes rows words.now row 0 / KINDS) MOST_LINKS && list_all (λ y. nat_lt y rows) (links passes rows words.now row))) }
     ensures in_range { result ≡ true → row < rows }
 {
     row < rows && marks[row as usize] && is_linked(words, passes, rows, row)
@@ -143,7 +144,7 @@ fn marked_tree(
     marks: &mut [bool],
 ) -> Result<Option<Vec<u32>>, AllocError>
     requires long { length words.now ≡ words_len passes rows }
-    requires few_rows { rows ≤ 262144 }
+    requires few_rows { rows ≤ MOST_ROWS }
     requires marks_len { length marks.old ≡ rows }
     ensures found { IfOk result (λ o. IfSome o (λ found. found.items ≡ tree_at passes rows words.now root)) }
     ensures allowed { IfOk result (λ o. is_some o ≡ (are_linked passes rows words.now (tree_at passes rows words.now root) && all_different (tree_at passes rows words.now root) && list_all (λ x. slice_index_or marks.old x false) (tree_at passes rows words.now root))) }
@@ -177,7 +178,7 @@ pub(crate) fn new_tree(
     marks: &mut [bool],
 ) -> Result<Option<Vec<u32>>, AllocError>
     requires long { length words.now ≡ words_len passes rows }
-    requires few_rows { rows ≤ 262144 }
+    requires few_rows { rows ≤ MOST_ROWS }
     requires marks_len { length marks.old ≡ rows }
     requires fresh_in_range { (x : ℕ) → In x fresh.now → x < rows }
     requires old_in_range { (x : ℕ) → In x old.now → x < rows }

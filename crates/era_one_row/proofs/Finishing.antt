@@ -1,7 +1,8 @@
 -- What a publication leaves, by its answer.
-use Rattle.std.proofs.Common.{◌≡◌, ℕ, ◌+◌, ◌-◌, ◌^◌, ◌<◌, Bool, true, Some, refl, subst, List, [], ◌∷◌, ◌++◌, length, sym, ap, ◌∙◌, arith, append-nil, length-append}
+use Rattle.std.proofs.Common.{◌≡◌, ℕ, ◌+◌, ◌<◌, Bool, true, Some, refl, subst, List, [], ◌∷◌, ◌++◌, length, sym, ap, ◌∙◌, arith, append-nil, length-append}
 use Rattle.std.specs.Prelude.{Result, Ok, Err, IfOk, IfErr, is_err}
 use Rattle.std.proofs.lemmas.Bool.{true≢false}
+use Rattle.era_core.specs.declared.sizes.TheConstants.{LAST_VERSION}
 use Rattle.era_core.specs.Lists.{without}
 use Rattle.era_core.specs.Words.{root_word}
 use Rattle.era_core.specs.Views.{batch_of}
@@ -16,7 +17,9 @@ use Rattle.era_rows.specs.declared.views.Knows.{Knows}
 use Rattle.era_rows.specs.declared.refusal.PublishRefusal.{PublishRefusal}
 use Rattle.era_rows.specs.declared.refusal.PublishRefusal.TheVariants.{Beaten, Spent}
 use Rattle.era_one_row.specs.Ready.{GoesOn}
+use Rattle.era_one_row.specs.Finding.{TakesAtMost}
 use Rattle.era_one_row.proofs.GoingOn.{goes_twice, read_goes}
+use Rattle.era_one_row.proofs.Counting.{takes_of, takes-exchanged}
 use mathlib.Core.Option.{some}
 use lib.ListN.{get_elem?}
 
@@ -72,7 +75,7 @@ module _ {E : Type 0} (caller stamp : E → ℕ) (accepted : ℕ → E → Bool)
       (omega arith, omega arith)
 
   -- only the last version of all is spent, and the pass has seen what it had
-  pub is_spent : (answer : Result ℕ PublishRefusal) → Ends answer → answer ≡ Err Spent → (n ≡ 2 ^ 40 - 1) × (after.seen ≡ before.seen)
+  pub is_spent : (answer : Result ℕ PublishRefusal) → Ends answer → answer ≡ Err Spent → (n ≡ LAST_VERSION) × (after.seen ≡ before.seen)
   is_spent answer done is = let spent : Ends (Err Spent) = subst Ends is done in (spent.0, ap (λ (k : Knows E). k.seen) spent.1)
 
   -- the pass knows what it knew, and its last pin is the one that it was
@@ -95,3 +98,12 @@ module _ {E : Type 0} (caller stamp : E → ℕ) (accepted : ℕ → E → Bool)
   pin_is_same (Ok v) done = ap (λ (k : Knows E). k.view.since) done.2.2.now ∙ ap (λ (k : Known). k.since) done.2.1.now
   pin_is_same (Err (Beaten v)) done = ap (λ (k : Known). k.since) done.1.2.2.view_is ∙ ap (λ (k : Known). k.since) done.1.2.1.now
   pin_is_same (Err Spent) done = ap (λ (k : Knows E). k.view.since) done.1
+
+  -- it took no row
+  pub takes-published : (passes rows : ℕ) → before.view.passes ≡ passes → before.view.rows ≡ rows → (answer : Result ℕ PublishRefusal) → Ends answer → TakesAtMost passes rows 0 before.view after.view
+  takes-published passes rows passes_are rows_are (Ok v) done =
+      takes-exchanged passes rows (root_word n p) before.view done.2.0 after.view passes_are rows_are done.2.1 (ap (λ (k : Knows E). k.view.looks) done.2.2.now)
+  takes-published passes rows passes_are rows_are (Err (Beaten v)) done =
+      takes-exchanged passes rows done.1.0 before.view done.1.2.0 after.view passes_are rows_are done.1.2.1 (ap (λ (k : Known). k.looks) done.1.2.2.view_is)
+  takes-published passes rows passes_are rows_are (Err Spent) done =
+      takes_of passes rows 0 before.view after.view [] (ap (λ (k : Knows E). k.view.looks) done.1 ∙ sym (append-nil before.view.looks)) (omega arith)

@@ -1,21 +1,21 @@
 -- What a pass knew it still knows, and its last pin stays.
-use Rattle.std.proofs.Common.{◌≡◌, ℕ, ◌+◌, ◌^◌, ◌<◌, Bool, List, [], ◌∷◌, ◌++◌, drop, length, refl, sym, ap, subst, ◌∙◌, arith, append-nil, append_assoc, length-append}
-use Rattle.std.proofs.Math.Seq.{drop-append_seam}
-use Rattle.era_core.specs.Words.{root_word, owner_at}
+use Rattle.std.proofs.Common.{◌≡◌, ℕ, ◌+◌, ◌<◌, Bool, List, [], ◌∷◌, ◌++◌, length, sym, ap, subst, ◌∙◌, arith, append-nil, length-append}
+use Rattle.era_core.specs.declared.sizes.TheConstants.{ROOT_ROWS}
+use Rattle.era_core.specs.Words.{root_word}
 use Rattle.era_core.specs.Versions.{Copy}
 use Rattle.era_core.proofs.ListFacts.{at_end}
 use Rattle.era_core.proofs.Publishes.{root_word-version}
 use Rattle.era_rows.specs.Known.{Known, Look}
 use Rattle.era_rows.specs.Lists.{IsPrefix}
-use Rattle.era_rows.specs.Passes.{AreTaken, HasRead, PinsVersion}
+use Rattle.era_rows.specs.Passes.{HasRead, PinsVersion}
 use Rattle.era_rows.specs.declared.views.Knows.{Knows}
 use Rattle.era_rows.proofs.Logs.{prefix_more}
-use Rattle.era_rows.proofs.Seats.{at_behind, prefix_at}
-use Rattle.era_one_row.specs.Ready.{GoesOn, HasPinned, new_looks}
+use Rattle.era_rows.proofs.Seats.{prefix_at}
+use Rattle.era_one_row.specs.Ready.{GoesOn, HasPinned}
 use lib.ListN.{get_elem?}
 
 -- what begins the beginning of a list begins the list
-begins_twice : {A : Type 0} (xs ys zs : List A) → IsPrefix xs ys → IsPrefix ys zs → IsPrefix xs zs
+pub begins_twice : {A : Type 0} (xs ys zs : List A) → IsPrefix xs ys → IsPrefix ys zs → IsPrefix xs zs
 begins_twice xs ys zs first second = subst (IsPrefix xs) second.1 (prefix_more xs ys second.0 first)
 
 -- two calls in turn, and a call that found these words and retired these batches
@@ -48,24 +48,8 @@ pin_stays n k l m pinned looked same = record {
   found = ap (get_elem? m.looks) same ∙ prefix_at l.looks m.looks l.since (0, pinned.word) looked pinned.found;
 }
 
--- rows that these looks found taken are found taken by these and others
-taken_among : (passes rows from to : ℕ) (first more last : List Look) → AreTaken passes rows from to more → AreTaken passes rows from to (first ++ (more ++ last))
-taken_among passes rows from to first more last taken r least most =
-    let at = taken r least most in
-    let look : Look = (owner_at passes rows r, at.1) in
-    (length first + at.0, at.1, at.2, at_behind first (more ++ last) at.0 ∙ prefix_at more (more ++ last) at.0 look (last, refl) at.3)
-
--- so they are, where a call found first what one part found, then these, and then others
-pub taken_in_call : (passes rows to : ℕ) (k l after : Known) (more last : List Look) → GoesOn k l → after.looks ≡ (l.looks ++ more) ++ last
-    → AreTaken passes rows 0 to more → AreTaken passes rows 0 to (new_looks k after)
-taken_in_call passes rows to k l after more last on looks taken =
-    let first = on.looked.0 in
-    let all : after.looks ≡ k.looks ++ (first ++ (more ++ last)) =
-    looks ∙ append_assoc l.looks more last ∙ ap (λ xs. xs ++ (more ++ last)) (sym on.looked.1) ∙ append_assoc k.looks first (more ++ last) in
-    subst (AreTaken passes rows 0 to) (sym (ap (drop (length k.looks)) all ∙ drop-append_seam k.looks (first ++ (more ++ last)))) (taken_among passes rows 0 to first more last taken)
-
 module _ {E : Type 0} (caller stamp : E → ℕ) (accepted : ℕ → E → Bool) (lawful : ℕ → Copy → Type 0) (stands : ℕ → Copy → List E → Type 0) (right : ℕ → E → List E → Type 0)
-    (n p : ℕ) (low : p < 2 ^ 24) (before after : Knows E) (pins : PinsVersion caller stamp accepted lawful stands right n p before after) where
+    (n p : ℕ) (low : p < ROOT_ROWS) (before after : Knows E) (pins : PinsVersion caller stamp accepted lawful stands right n p before after) where
   -- a pin is one of this call
   pub pin_was_now : HasPinned n before.view after.view
   pin_was_now =

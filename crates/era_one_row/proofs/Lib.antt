@@ -3,3 +3,5 @@ pub mod Preparing
 pub mod Finishing
 pub mod Starting
 pub mod GoingOn
+pub mod Counting
+pub mod FindingRows

@@ -2,6 +2,7 @@
 use Rattle.std.proofs.Common.{◌≡◌, ℕ, zero, suc, ◌+◌, ◌/◌, ⊎_elim, inl, true, Some, List, [], ◌∷◌, flat_map, min, refl, sym, ap, subst, ◌∙◌, arith}
 use Rattle.std.specs.Prelude.{is_some, unwrap_or}
 use Rattle.std.proofs.lemmas.Bool.{cases_eq}
+use Rattle.era_core.specs.declared.sizes.TheConstants.{MOST_LINKS, KINDS}
 use Rattle.era_core.specs.Lists.{times, In, without, tree}
 use Rattle.era_core.specs.Words.{run_of}
 use Rattle.era_core.specs.Versions.{look_up, known, known_links}
@@ -22,7 +23,7 @@ alone links (suc depth) r none = ap (λ xs. r ∷ flat_map (tree links depth) xs
 
 module _ (k : Known) (q : ℕ) (no_links : look_up (known_words k) q 0 ≡ Some 0) where
   rows_are : (copy_known k q).rows ≡ q ∷ []
-  rows_are = alone (known_links (known_words k)) k.rows q (ap (λ o. run_of (known (known_words k) q) 1 (min 39 (unwrap_or o 0 / 4))) no_links)
+  rows_are = alone (known_links (known_words k)) k.rows q (ap (λ o. run_of (known (known_words k) q) 1 (min MOST_LINKS (unwrap_or o 0 / KINDS))) no_links)
 
   here : In q (copy_known k q).rows
   here = subst (In q) (sym rows_are) (in_head q [])
@@ -36,7 +37,7 @@ module _ (k : Known) (q : ℕ) (no_links : look_up (known_words k) q 0 ≡ Some 
   is_one_row = record {
     alone = rows_are;
     written = ap is_some (found 0 0 no_links);
-    no_links = ap (λ o. unwrap_or o 0 / 4) (found 0 0 no_links);
+    no_links = ap (λ o. unwrap_or o 0 / KINDS) (found 0 0 no_links);
   }
 
   -- where the pinned tree is another row, that row is the one that goes

@@ -1,3 +1,4 @@
 pub mod OneRow
 pub mod OneRowLaw
 pub mod Ready
+pub mod Finding

@@ -1,10 +1,12 @@
 -- What a pass of one shared row is between the parts of a replacement.
-use Rattle.std.specs.Prelude.{◌≡◌, ℕ, ◌/◌, ◌^◌, ◌<◌, ◌≤◌, Some, None, List, [], ◌∷◌, drop, length}
+use Rattle.std.specs.Prelude.{◌≡◌, ℕ, ◌+◌, ◌/◌, ◌<◌, ◌≤◌, Some, None, List, [], ◌∷◌, drop, length}
+use Rattle.era_core.specs.declared.sizes.TheConstants.{ROOT_ROWS, LAST_VERSION}
 use Rattle.era_core.specs.Lists.{times, In}
+use Rattle.era_core.specs.Views.{versions_of}
 use Rattle.era_core.specs.Versions.{Copy, look_up}
 use Rattle.era_rows.specs.Known.{Known, Look, pinned_copy, known_words}
 use Rattle.era_rows.specs.Lists.{IsPrefix, add_entry}
-use Rattle.era_rows.specs.Passes.{AreTaken, IsPassOf, known_of, seen_of, marked_of, work_of}
+use Rattle.era_rows.specs.Passes.{IsPassOf, known_of, seen_of, marked_of, work_of}
 use Rattle.era_rows.specs.declared.pass.Pass.{Pass}
 use Rattle.era_rows.specs.declared.rows.Rows.{Rows}
 use Rattle.era_rows.specs.declared.law.Law.{Ghosts}
@@ -36,15 +38,11 @@ pub record GoesOn (before after : Known) : Type 0 where
 -- the last pin was in this call, and found version n
 pub record HasPinned (n : ℕ) (before after : Known) : Type 0 where
   pub word : ℕ
-  pub version : word / 2 ^ 24 ≡ n
+  pub version : word / ROOT_ROWS ≡ n
   pub in_call : length before.looks ≤ after.since
   pub found : get_elem? after.looks after.since ≡ some (0, word)
 
 module _ {L E : Type 0} {G : Ghosts L E} where
-  -- the call found an owner in each row
-  abbrev pub FoundFull : Rows L E → Pass L E G → Pass L E G → Type 0
-  FoundFull r p q = AreTaken r.passes r.rows 0 r.rows (new_looks (known_of p) (known_of q))
-
   -- version v is the last one that the pass knows, and later than the one that it pinned in this call
   pub record IsBeaten (v : ℕ) (p q : Pass L E G) : Type 0 where
     pub current : v ≡ length (seen_of q)
@@ -66,16 +64,19 @@ module _ {L E : Type 0} {G : Ghosts L E} where
   -- it has pinned version n, the last one that it knows, which is one row
   pub record Reads (r : Rows L E) (n root : ℕ) (p : Pass L E G) : Type 0 where
     pub is_pass : IsPassOf r p
-    pub low : n < 2 ^ 40
+    pub low : n ≤ LAST_VERSION
     pub current : length (seen_of p) ≡ n
     pub pinned : (known_of p).core.pinned ≡ Some (n, root)
     pub alone : (pinned_copy (known_of p)).rows ≡ root ∷ []
     pub no_marks : marked_of p ≡ []
+    -- and all versions that it knows are those up to it; what it retired is older than what it reserves
+    pub last : length (known_of p).copies ≡ n + 1
+    pub older : (b : ℕ) → In b (versions_of (known_of p).core.retired) → b + 1 < (known_of p).reserves
 
   -- and it has a fresh row without links, which is to take the place of that row
   pub record IsReady (r : Rows L E) (n root row : ℕ) (p : Pass L E G) : Type 0 where
     pub is_pass : IsPassOf r p
-    pub low : n < 2 ^ 40
+    pub low : n ≤ LAST_VERSION
     pub current : length (seen_of p) ≡ n
     pub pinned : (known_of p).core.pinned ≡ Some (n, root)
     pub alone : (pinned_copy (known_of p)).rows ≡ root ∷ []

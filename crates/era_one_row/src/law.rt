@@ -9,13 +9,14 @@ pub struct Stamped {
     pub stamp: u64,
 }
 
-/// Each entry is accepted. A lawful tree is one row without links, and it stands for any entries.
+/// Each entry is accepted. A lawful tree is one row without links, and it stands for any entries. Words that are remembered
+/// say that the first of them is the number of a version that was seen.
 pub struct OneRow;
 
 impl Law for OneRow {
     ghost use Rattle.std.specs.Prelude.{true};
-    ghost use Rattle.era_one_row.specs.OneRow.{IsOneRow};
-    ghost use Rattle.era_one_row.specs.OneRowLaw.{is_tree, begins as one_row_begins};
+    ghost use Rattle.era_one_row.specs.OneRow.{IsOneRow, is_seen};
+    ghost use Rattle.era_one_row.specs.OneRowLaw.{is_tree, begins as one_row_begins, seen_lasts};
 
     type Entry = Stamped;
 
@@ -31,9 +32,13 @@ impl Law for OneRow {
 
     ghost right = { λ _ _ _. Unit {0} };
 
+    ghost says = { λ _ words entries. is_seen words entries };
+
     ghost fits = { λ _ c one. is_tree c one };
 
     ghost begins = { λ _. (one_row_begins, tt) };
+
+    ghost lasts = { λ _ words entries more said. seen_lasts words entries more said };
 }
 
 impl Names<OneRow> for Stamped {

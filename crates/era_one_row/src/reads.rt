@@ -6,6 +6,7 @@ ghost use mathlib.Core.Option.{some};
 ghost use lib.ListN.{get_elem?};
 ghost use lib.ListN.{length};
 
+use era_core::WIDTH;
 use era_rows::{Law, Nothing, Pass, Rows};
 
 /// The number of the current version, which is that of the accepted entries that the pass has then seen, and the word at a
@@ -13,7 +14,7 @@ use era_rows::{Law, Nothing, Pass, Rows};
 pub fn read_current<L: Law>(rows: &Rows<L>, pass: &mut Pass<L>, place: u32) -> (u64, u64)
     requires pass { IsPassOf rows.now pass.old }
     requires unpinned { (known_of pass.old).core.pinned ≡ None }
-    requires place { place < 40 }
+    requires place { place < WIDTH }
     ensures pass { IsPassOf rows.now pass.new }
     ensures same { IsSamePass pass.old pass.new }
     ensures unpinned { (known_of pass.new).core.pinned ≡ None }

@@ -1,17 +1,21 @@
 //! Replacing the one row.
-ghost use Rattle.std.specs.Prelude.{◌≡◌, ℕ, ◌+◌, ◌-◌, ◌^◌, ◌<◌, IfOk, IfErr, IfSome, Some, None, Err, [], ◌∷◌, length};
+ghost use Rattle.std.specs.Prelude.{◌≡◌, ◌≢◌, ℕ, ◌+◌, ◌-◌, ◌^◌, ◌<◌, IfOk, IfErr, IfSome, Some, None, Err, [], ◌∷◌, length};
 ghost use Rattle.era_core.specs.Lists.{without};
 ghost use Rattle.era_core.specs.Versions.{look_up};
-ghost use Rattle.era_rows.specs.Known.{Known, known_words, copy_known};
+ghost use Rattle.era_rows.specs.Known.{known_words, copy_known};
 ghost use Rattle.era_rows.specs.Lists.{add_entry};
-ghost use Rattle.era_rows.specs.Passes.{known_of, seen_of, lists_of, IsSamePass, Searches, Tidies};
-ghost use Rattle.era_one_row.specs.Ready.{IsAtRest, Reads, IsReady, IsNumbered, GoesOn, HasPinned, FoundFull, IsBeaten, stamped, lists_after};
+ghost use Rattle.era_rows.specs.Passes.{known_of, seen_of, lists_of, IsPassOf, IsSamePass, HasSame};
+ghost use Rattle.era_rows.specs.Evidence.{ShowsFull};
+ghost use Rattle.era_one_row.specs.Ready.{IsAtRest, Reads, IsReady, IsNumbered, GoesOn, HasPinned, IsBeaten, stamped, lists_after};
+ghost use Rattle.era_one_row.specs.Finding.{FindsRow, MayTidy, TidiesLast, TakesAtMost};
 ghost use Rattle.era_one_row.specs.declared.replaces.Replaced.TheVariants.{Done, Beaten as WasBeaten, Full, Spent as WasSpent};
 ghost use Rattle.era_rows.specs.declared.refusal.PublishRefusal.TheVariants.{Beaten, Spent};
 ghost use mathlib.Core.Option.{some};
 ghost use lib.ListN.{get_elem?};
 
+use crate::finds::find_row;
 use crate::law::{OneRow, Stamped};
+use era_core::LAST_VERSION;
 use era_rows::{Nothing, Pass, PublishRefusal, Rows};
 
 /// Pins the current version: its number and its row.
@@ -22,12 +26,14 @@ pub fn open(rows: &Rows<OneRow>, pass: &mut Pass<OneRow>) -> (u64, u32)
     ensures lists { lists_of pass.new ≡ lists_of pass.old }
     ensures on { GoesOn (known_of pass.old) (known_of pass.new) }
     ensures pinned { HasPinned result.0 (known_of pass.old) (known_of pass.new) }
+    ensures fresh { (known_of pass.new).core.fresh ≡ (known_of pass.old).core.fresh }
+    ensures takes { TakesAtMost rows.now.passes rows.now.rows 0 (known_of pass.old) (known_of pass.new) }
 {
     rows.pin(pass)
 }
 
 /// A fresh row with the word at place 1, ready to be put in the place of the pinned one. None only where this call found an
-/// owner in each row.
+/// owner in each row, tidied, and found an owner in each row again.
 pub fn prepare(
     rows: &Rows<OneRow>,
     pass: &mut Pass<OneRow>,
@@ -38,13 +44,14 @@ pub fn prepare(
     ensures ready { IfSome result (λ row. IsReady rows.now pin.0 pin.1 row pass.new) }
     ensures word { IfSome result (λ row. look_up (known_words (known_of pass.new)) row 1 ≡ Some word) }
     ensures full { result ≡ None → Reads rows.now pin.0 pin.1 pass.new }
-    ensures searched { result ≡ None → Searches 0 rows.now.rows (known_of pass.old) (known_of pass.new) None }
+    ensures searched { result ≡ None → FindsRow rows.now.rows (known_of pass.old) (known_of pass.new) None }
     ensures same { IsSamePass pass.old pass.new }
     ensures lists { lists_of pass.new ≡ lists_of pass.old }
-    ensures on { GoesOn (known_of pass.old) (known_of pass.new) }
+    ensures on { MayTidy (known_of pass.old) (known_of pass.new) }
+    ensures takes { TakesAtMost rows.now.passes rows.now.rows 1 (known_of pass.old) (known_of pass.new) }
     ensures same_pin { (known_of pass.new).since ≡ (known_of pass.old).since }
 {
-    let row = rows.take(pass)?;
+    let row = find_row(rows, pass)?;
     rows.write(pass, row, 0, 0);
     rows.write(pass, row, 1, word);
     rows.mark(pass, pin.1);
@@ -68,8 +75,9 @@ pub fn finish(
     ensures refused { IfErr result (λ _. lists_of pass.new ≡ lists_of pass.old) }
     ensures given_back { IfErr result (λ _. (known_of pass.new).core.fresh ≡ without (row ∷ []) (known_of pass.old).core.fresh) }
     ensures beaten { (v : ℕ) → result ≡ Err (Beaten v) → (pin.0 < v) × (v ≡ length (seen_of pass.new)) }
-    ensures spent { result ≡ Err Spent → (pin.0 ≡ 2 ^ 40 - 1) × (length (seen_of pass.new) ≡ pin.0) }
+    ensures spent { result ≡ Err Spent → (pin.0 ≡ LAST_VERSION) × (length (seen_of pass.new) ≡ pin.0) }
     ensures on { GoesOn (known_of pass.old) (known_of pass.new) }
+    ensures takes { TakesAtMost rows.now.passes rows.now.rows 0 (known_of pass.old) (known_of pass.new) }
     ensures same_pin { (known_of pass.new).since ≡ (known_of pass.old).since }
 {
     let entry = Stamped {
@@ -84,8 +92,8 @@ pub fn finish(
     published
 }
 
-/// What came of a replacement: the number of the new version, or of the one that was published before, or an owner was found
-/// in each row, or the version is the last of all.
+/// What came of a replacement: the number of the new version, or of the one that was published before, or no row was free, or
+/// the version is the last of all.
 #[derive(Clone, Copy, Debug, PartialEq, Eq, Drop)]
 pub enum Replaced {
     Done(u64),
@@ -95,7 +103,8 @@ pub enum Replaced {
 }
 
 /// Puts a row with the number of its version at place 1 in the place of the current one, and then frees what no pass can
-/// read.
+/// read. It takes one row at most. `Full` comes only with an evidence that the pass keeps, and a pass that is alone never
+/// answers it where one row is left beside its fresh ones and the pinned one.
 pub fn replace(rows: &Rows<OneRow>, pass: &mut Pass<OneRow>) -> Replaced
     requires { IsAtRest rows.now pass.old }
     ensures rest { IsAtRest rows.now pass.new }
@@ -103,9 +112,11 @@ pub fn replace(rows: &Rows<OneRow>, pass: &mut Pass<OneRow>) -> Replaced
     ensures lists { lists_of pass.new ≡ lists_after result pass.old.number (lists_of pass.old) }
     ensures version { (v : ℕ) → result ≡ Done v → IsNumbered v pass.new }
     ensures beaten { (v : ℕ) → result ≡ WasBeaten v → IsBeaten v pass.old pass.new }
-    ensures full { result ≡ Full → FoundFull rows.now pass.old pass.new }
-    ensures spent { result ≡ WasSpent → length (seen_of pass.new) ≡ 2 ^ 40 - 1 }
-    ensures tidied { (k : Known) × GoesOn (known_of pass.old) k × Tidies k (known_of pass.new) }
+    ensures full { result ≡ Full → ShowsFull rows.now.passes rows.now.rows (length (known_of pass.old).core.fresh) (known_of pass.old) (known_of pass.new) }
+    ensures alone { rows.now.passes ≡ 1 → length (known_of pass.old).core.fresh + 1 < rows.now.rows → result ≢ Full }
+    ensures spent { result ≡ WasSpent → length (seen_of pass.new) ≡ LAST_VERSION }
+    ensures takes { TakesAtMost rows.now.passes rows.now.rows 1 (known_of pass.old) (known_of pass.new) }
+    ensures tidied { TidiesLast (known_of pass.old) (known_of pass.new) }
 {
     let pin = open(rows, pass);
     let Some(row) = prepare(rows, pass, pin, pin.0 + 1) else {

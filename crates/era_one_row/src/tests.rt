@@ -1,11 +1,11 @@
 //! One row by several passes, in turn and in two threads.
 
-ghost use Rattle.std.specs.Prelude.{IfOk};
-ghost use Rattle.era_rows.specs.Passes.{IsPassOf};
+ghost use Rattle.std.specs.Prelude.{◌<◌, ◌≤◌, IfOk, IfSome, length};
+ghost use Rattle.era_rows.specs.Passes.{seen_of, IsPassOf};
 ghost use Rattle.era_one_row.specs.Ready.{IsAtRest, IsIdle};
 
-use crate::{OneRow, Replaced, finish, open, prepare, read_current, replace};
-use era_rows::{Pass, PublishRefusal, Rows};
+use crate::{OneRow, Replaced, finish, join, open, prepare, read_current, replace};
+use era_rows::{MEMORY_PLACES, Nothing, Pass, PublishRefusal, Rows};
 use std::alloc::{AllocError, Global};
 use std::thread;
 use std::thread::Threads;
@@ -136,6 +136,113 @@ fn frees_a_row_when_nobody_reads_it(rt: HostRuntime) -> Result<(), AllocError> {
     Ok(())
 }
 
+// How many replacements are done before no row is free, 100 at most.
+fn replace_until_full(rows: &Rows<OneRow>, pass: &mut Pass<OneRow>) -> u32
+    requires { IsAtRest rows.now pass.old }
+    ensures { IsAtRest rows.now pass.new }
+{
+    for done in 0..100 {
+        if let Replaced::Full = replace(rows, pass) {
+            return done;
+        }
+    }
+    100
+}
+
+// One pass reads version 0 while the other replaces the row until no row is free; then the first one leaves: how many
+// replacements were done, and what the next one answers.
+fn fill_while_read(
+    rows: &Rows<OneRow>,
+    a: &mut Pass<OneRow>,
+    b: &mut Pass<OneRow>,
+) -> (u32, Replaced)
+    requires { IsAtRest rows.now a.old × IsAtRest rows.now b.old }
+{
+    open(rows, a);
+    let done = replace_until_full(rows, b);
+    rows.unpin(a, &Nothing);
+    (done, replace(rows, b))
+}
+
+#[test]
+fn is_full_while_a_version_is_read(rt: HostRuntime) -> Result<(), AllocError> {
+    let (rows, mut a, mut b) = start_two(rt.alloc())?;
+    let (done, next) = fill_while_read(&rows, &mut a, &mut b);
+    assert!(&rt; done == 63, "each row but the current one is retired");
+    assert!(&rt;
+        next == Replaced::Done(64),
+        "and is free once no pass reads it"
+    );
+    Ok(())
+}
+
+// The version that a pass remembers at a place, which is one that it has seen.
+fn remembered_version(pass: &Pass<OneRow>, place: usize) -> Option<u64>
+    requires { place < MEMORY_PLACES }
+    ensures { IfSome result (λ version. version ≤ length (seen_of pass.now)) }
+{
+    let words = pass.remembered(place)?;
+    Some(words[0])
+}
+
+// Remembers at place 0 the version that is current.
+fn remember_version(rows: &Rows<OneRow>, pass: &mut Pass<OneRow>) -> u64
+    requires { IsIdle rows.now pass.old }
+    ensures { IsIdle rows.now pass.new }
+{
+    let (version, _) = open(rows, pass);
+    pass.remember(0, [version, 0, 0, 0, 0, 0]);
+    rows.unpin(pass, &Nothing);
+    version
+}
+
+// One pass loses a publication to the other.
+fn lose_to(rows: &Rows<OneRow>, a: &mut Pass<OneRow>, b: &mut Pass<OneRow>) -> Option<bool>
+    requires { IsIdle rows.now a.old × IsIdle rows.now b.old }
+    ensures { IfSome result (λ _. IsIdle rows.now a.new × IsIdle rows.now b.new) }
+{
+    let pin = open(rows, a);
+    replace(rows, b);
+    let row = prepare(rows, a, pin, pin.0 + 1)?;
+    Some(finish(rows, a, pin, row).is_err())
+}
+
+// A pass remembers a version, publishes, loses a publication to another, which then remembers a later version, and takes that
+// one over: the first version, and what it remembers after each.
+fn remember_and_join(
+    rows: &Rows<OneRow>,
+    mut a: Pass<OneRow>,
+    mut b: Pass<OneRow>,
+) -> Option<[u64; 4]>
+    requires { IsIdle rows.now a × IsIdle rows.now b }
+{
+    let version = remember_version(rows, &mut a);
+    replace(rows, &mut a);
+    let published = remembered_version(&a, 0)?;
+    if !lose_to(rows, &mut a, &mut b)? {
+        return None;
+    }
+    let lost = remembered_version(&a, 0)?;
+    remember_version(rows, &mut b);
+    join(rows, &mut a, b);
+    Some([version, published, lost, remembered_version(&a, 0)?])
+}
+
+#[test]
+fn remembers_a_version(rt: HostRuntime) -> Result<(), AllocError> {
+    let (rows, mut a, b) = start_two(rt.alloc())?;
+    assert!(&rt;
+        remembered_version(&a, 0) == None,
+        "a new pass remembers nothing"
+    );
+    replace(&rows, &mut a);
+    assert!(&rt;
+        remember_and_join(&rows, a, b) == Some([1, 1, 1, 1]),
+        "version 1 is remembered throughout"
+    );
+    Ok(())
+}
+
 // Replaces the row so many times, and reads it each time before: how many replacements were done, and whether each word that
 // was read was the number of its version.
 fn replace_and_read(rows: &Rows<OneRow>, pass: &mut Pass<OneRow>, count: u32) -> (u32, bool)
@@ -187,7 +294,7 @@ fn replace_by_two<R: Threads + Sync>(
             ensures { IsIdle rows.entry.now result.0 }
         { replace_in_thread(rows, b, count) },
     );
-    rows.join(&mut a, b);
+    join(rows, &mut a, b);
     (seen_a, seen_b, read_current(rows, &mut a, 1))
 }
 

@@ -3,6 +3,7 @@ use Rattle.std.proofs.Common.{◌≡◌, ℕ, ◌+◌, ◌<◌, Bool, cond, eqb,
 use Rattle.std.proofs.lemmas.List.{set-get_or}
 use Rattle.atomic_table.specs.Table.{State, Me, Act, keeps, Valid, carried_after, stepped, step, Allows}
 use Rattle.atomic_table.proofs.Lists.{exchanged}
+use Rattle.era_core.specs.declared.sizes.TheConstants.{WIDTH}
 use Rattle.era_core.specs.Lists.{In}
 use Rattle.era_core.specs.Words.{owner_at, cell_at}
 use Rattle.era_core.specs.Versions.{Copy}
@@ -81,7 +82,7 @@ module _ {E : Type 0} (caller stamp : E → ℕ) (accepted : ℕ → E → Bool)
         (subst (λ x. Allows Held slots id me (owner_at key.passes key.rows r) (λ n. cond (eqb n 0) x n) (took full (step slots (owner_at key.passes key.rows r) 0 x none) me)) (sym word_is)
         (takes_row full r row))
 
-    pub writes_row : (r p word : ℕ) → In r known.core.fresh → p < 40
+    pub writes_row : (r p word : ℕ) → In r known.core.fresh → p < WIDTH
         → Allows Held slots id me (cell_at key.passes key.rows r p) (λ _. word) (λ _. wrote (step slots (cell_at key.passes key.rows r p) word 0 none) me word)
     writes_row r p word fresh place s kept homes at bound = (
       after (writing r p word known),
@@ -108,7 +109,7 @@ module _ {E : Type 0} (caller stamp : E → ℕ) (accepted : ℕ → E → Bool)
           (ap (λ x. after (freeing_row x known)) row, refl),
     )
 
-    pub writes_at : (r p place word : ℕ) → place ≡ cell_at key.passes key.rows r p → In r known.core.fresh → p < 40
+    pub writes_at : (r p place word : ℕ) → place ≡ cell_at key.passes key.rows r p → In r known.core.fresh → p < WIDTH
         → Allows Held slots id me place (λ _. word) (λ _. wrote (step slots place word 0 none) me word)
     writes_at r p place word place_is fresh near =
         subst (λ x. Allows Held slots id me x (λ _. word) (λ _. wrote (step slots x word 0 none) me word)) (sym place_is) (writes_row r p word fresh near)

@@ -10,7 +10,7 @@ use Rattle.era_core.proofs.BatchFacts.{times-without_gone, times-without_kept}
 use Rattle.era_core.proofs.Marks.{times-push_other, is_in-push_same, is_in-push_other}
 use Rattle.era_rows.specs.Reach.{IsReached}
 use Rattle.era_rows.proofs.Moves.{not_in}
-use Rattle.era_rows.proofs.Room.{AreBelow, different-push, length-below, room}
+use Rattle.era_core.proofs.Room.{AreBelow, different-push, length-below, room}
 
 -- the test of membership finds a row that stands in the list
 pub in_list : (x : ℕ) (xs : List ℕ) → In x xs → is_in x xs ≡ true

@@ -1,7 +1,7 @@
 -- A pass that takes over what another knows and has keeps the rule.
-use Rattle.std.proofs.Common.{◌≡◌, ◌≢◌, ℕ, zero, suc, ◌+◌, ◌-◌, ◌<◌, ◌≤◌, ◌⊎◌, ⊎_elim, inl, inr, Bool, cond, lt-ltb, le-ltb, Some, None, List, [], ◌∷◌, ◌++◌, length, map, set, refl, sym, ap, subst, ◌∙◌, arith}
+use Rattle.std.proofs.Common.{◌≡◌, ◌≢◌, ℕ, zero, suc, ◌+◌, ◌-◌, ◌≤◌, ◌⊎◌, ⊎_elim, inl, inr, Bool, Some, None, List, [], ◌∷◌, ◌++◌, length, take, drop, map, set, refl, sym, ap, subst, ◌∙◌, arith, length-append, length-drop, append-nil}
 use Rattle.std.proofs.lemmas.Bool.{cases_lt}
-use Rattle.std.proofs.lemmas.List.{map-append}
+use Rattle.std.proofs.lemmas.List.{map-append, take-append-drop, drop_all}
 use Rattle.std.proofs.lemmas.Option.{same_Some, none-some}
 use Rattle.atomic_table.specs.Table.{State, Joins}
 use Rattle.atomic_table.proofs.Lists.{at_longer}
@@ -18,6 +18,7 @@ use Rattle.era_rows.specs.declared.views.Knows.{Knows}
 use Rattle.era_rows.specs.declared.sizes.Sizes.{Sizes}
 use Rattle.era_rows.proofs.Seats.{core_at, core_set}
 use Rattle.era_rows.proofs.Learning.{more_seen}
+use Rattle.era_rows.proofs.Logs.{take_prefix, take_within}
 use Rattle.era_rows.proofs.JoinedViews.{joins}
 use mathlib.Core.Option.{some}
 use lib.ListN.{get_elem?}
@@ -29,37 +30,28 @@ module _ {A : Type 0} where
   at_either (x ∷ xs) ys zero a here = inl here
   at_either (x ∷ xs) ys (suc i) a here = at_either xs ys i a here
 
-  -- the longer one of two lists is the second where that has more elements, and else the first
-  pub longer_is : (xs ys : List A) → ((length xs < length ys) × (longer xs ys ≡ ys)) ⊎ ((length ys ≤ length xs) × (longer xs ys ≡ xs))
-  longer_is xs ys =
-      ⊎_elim
-      (λ more. inl (more, ap (λ b. cond b ys xs) (lt-ltb (length xs) (length ys) more)))
-      (λ less. inr (less, ap (λ b. cond b ys xs) (le-ltb (length xs) (length ys) less)))
-      (cases_lt (length xs) (length ys))
-
+  -- the longer one of two lists that begin a third one begins it
   longer_begins : (xs ys all : List A) → IsPrefix xs all → IsPrefix ys all → IsPrefix (longer xs ys) all
   longer_begins xs ys all first second =
-      ⊎_elim (λ t. subst (λ zs. IsPrefix zs all) (sym t.1) second) (λ t. subst (λ zs. IsPrefix zs all) (sym t.1) first) (longer_is xs ys)
+      ⊎_elim
+      (λ more.
+      let begun : take (length xs) ys ≡ xs = sym (take_within ys all (length xs) second (omega arith)) ∙ take_prefix xs all first in
+      subst (λ zs. IsPrefix zs all) (sym (ap (λ zs. zs ++ drop (length xs) ys) (sym begun) ∙ take-append-drop (length xs) ys)) second)
+      (λ less. subst (λ zs. IsPrefix zs all) (sym (ap (λ zs. xs ++ zs) (drop_all (length xs) ys less) ∙ append-nil xs)) first)
+      (cases_lt (length xs) (length ys))
+
+  longer-length : (xs ys : List A) → length (longer xs ys) ≡ length xs + (length ys - length xs)
+  longer-length xs ys = length-append xs (drop (length xs) ys) ∙ ap (λ n. length xs + n) (length-drop (length xs) ys)
 
   pub longer_left : (xs ys : List A) → length xs ≤ length (longer xs ys)
-  longer_left xs ys = ⊎_elim (λ t. (let more = t.0 in omega (arith, ap (λ zs. length zs) t.1))) (λ t. omega (arith, ap (λ zs. length zs) t.1)) (longer_is xs ys)
+  longer_left xs ys = let long = longer-length xs ys in omega arith
 
   pub longer_right : (xs ys : List A) → length ys ≤ length (longer xs ys)
-  longer_right xs ys = ⊎_elim (λ t. omega (arith, ap (λ zs. length zs) t.1)) (λ t. (let less = t.0 in omega (arith, ap (λ zs. length zs) t.1))) (longer_is xs ys)
+  longer_right xs ys = let long = longer-length xs ys in omega arith
 
 -- where each first list has one element more than the second one, the longer ones do
 longer_paired : {A B : Type 0} (xs zs : List A) (ys us : List B) → length xs ≡ length ys + 1 → length zs ≡ length us + 1 → length (longer xs zs) ≡ length (longer ys us) + 1
-longer_paired xs zs ys us first second =
-    ⊎_elim
-    (λ t. ⊎_elim
-    (λ s. omega (arith, ap (λ l. length l) t.1, ap (λ l. length l) s.1))
-    (λ s. absurd (let more = t.0 in let less = s.0 in omega arith))
-    (longer_is ys us))
-    (λ t. ⊎_elim
-    (λ s. absurd (let less = t.0 in let more = s.0 in omega arith))
-    (λ s. omega (arith, ap (λ l. length l) t.1, ap (λ l. length l) s.1))
-    (longer_is ys us))
-    (longer_is xs zs)
+longer_paired xs zs ys us first second = let a = longer-length xs zs in let b = longer-length ys us in omega arith
 
 module _ {E : Type 0} (caller stamp : E → ℕ) (accepted : ℕ → E → Bool) (lawful : ℕ → Copy → Type 0) (stands : ℕ → Copy → List E → Type 0)
     (right : ℕ → E → List E → Type 0) (key : Sizes) where

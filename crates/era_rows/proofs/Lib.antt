@@ -5,7 +5,6 @@ pub mod Alone
 pub mod Allowing
 pub mod Opening
 pub mod Splitting
-pub mod Room
 pub mod Learning
 pub mod Logs
 pub mod Consistent
@@ -17,6 +16,7 @@ pub mod Holding
 pub mod JoinedViews
 pub mod Joining
 pub mod Retired
+pub mod Orders
 pub mod Looking
 pub mod Tidying
 pub mod Freeing
@@ -25,3 +25,6 @@ pub mod Publishing
 pub mod Flags
 pub mod Reaching
 pub mod Published
+pub mod CountingLooks
+pub mod Evidence
+pub mod Remembering

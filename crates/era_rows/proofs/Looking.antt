@@ -1,10 +1,11 @@
 -- The steps of a scan: a look at a reservation, and Free of a retired row that the scan has cleared.
-use Rattle.std.proofs.Common.{◌≡◌, ℕ, ◌+◌, ◌/◌, ◌^◌, ◌<◌, ◌⊎◌, Bool, true, not, cond, eqb, le-ltb, Some, None, List, [], ◌∷◌, ◌++◌, set, refl, sym, ap, subst, ◌∙◌, arith}
+use Rattle.std.proofs.Common.{◌≡◌, ℕ, ◌+◌, ◌/◌, ◌<◌, ◌⊎◌, Bool, true, not, cond, eqb, le-ltb, Some, None, List, [], ◌∷◌, ◌++◌, set, refl, sym, ap, subst, ◌∙◌, arith}
 use Rattle.std.specs.Prelude.{◌&&◌}
 use Rattle.std.specs.List.{list_any}
 use Rattle.std.proofs.lemmas.List.{set-get_or}
 use Rattle.std.proofs.lemmas.Option.{same_Some}
 use Rattle.atomic_table.specs.Table.{State, Me, keeps, step, Allows}
+use Rattle.era_core.specs.declared.sizes.TheConstants.{ROOT_ROWS}
 use Rattle.era_core.specs.Lists.{times, In, is_in, without}
 use Rattle.era_core.specs.Words.{reservation_at, owner_at, reservation}
 use Rattle.era_core.specs.Views.{View, rows_in, reserved, lesser, clears, freeing, without_row}
@@ -78,7 +79,7 @@ module _ {E : Type 0} (caller stamp : E → ℕ) (accepted : ℕ → E → Bool)
       freed_retired =
           subst P (sym is_retired) (moves caller stamp accepted lawful stands right key ws vs kept i j k at mine us
           (knowing k.seen k.lists (with (record core { retired = without_row r core.retired }))) refl
-          (ap (λ x. x / 2 ^ 24) (owner_keeps_root key.passes key.rows ws r 0))
+          (ap (λ x. x / ROOT_ROWS) (owner_keeps_root key.passes key.rows ws r 0))
           (λ m pass other. owner_keeps_reservation key.passes key.rows ws r 0 m pass)
           (λ a u apart at_a theirs. still u.view.written theirs.stand)
           (subst (λ z. Sound key.passes key.rows us (set all i z) kept.copies) is_retired (frees_retired key.passes key.rows ws all kept.copies kept.sound i j core there mine r whole cleared))

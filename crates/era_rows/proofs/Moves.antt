@@ -1,7 +1,8 @@
 -- Steps of one pass that leave the root, what the other passes reserved, and what they wrote.
-use Rattle.std.proofs.Common.{slice_index, Option, None, zero, suc, true, cond, eqb, not, ◌&&◌, lt-ltb, eq-eqb, get_or-set_same, get_or-set_other, ◌≡◌, ◌≢◌, ℕ, ◌+◌, ◌-◌, ◌<◌, ⊎_elim, Bool, Some, List, [], ◌∷◌, ◌++◌, ◌/◌, ◌^◌, map, set, refl, sym, ap, subst, ◌∙◌, arith}
+use Rattle.std.proofs.Common.{slice_index, Option, None, zero, suc, true, cond, eqb, not, ◌&&◌, lt-ltb, eq-eqb, get_or-set_same, get_or-set_other, ◌≡◌, ◌≢◌, ℕ, ◌+◌, ◌-◌, ◌<◌, ⊎_elim, Bool, Some, List, [], ◌∷◌, ◌++◌, ◌/◌, map, set, refl, sym, ap, subst, ◌∙◌, arith}
 use Rattle.std.proofs.lemmas.Bool.{cases_eq, cases_lt, true≢false}
 use Rattle.std.proofs.lemmas.Option.{same_Some, none-some}
+use Rattle.era_core.specs.declared.sizes.TheConstants.{WIDTH, ROOT_ROWS}
 use Rattle.era_core.specs.Lists.{times, In, is_in, without}
 use Rattle.era_core.specs.Words.{reservation_at, version, owner_at, cell_at, reservation, owner, cell}
 use Rattle.era_core.specs.Views.{View, rows_in, held, without_row, freeing}
@@ -142,7 +143,7 @@ module _ {E : Type 0} (caller stamp : E → ℕ) (accepted : ℕ → E → Bool)
       us word = set ws (owner_at key.passes key.rows r) word
 
       owner_version : (word : ℕ) → version (us word) ≡ version ws
-      owner_version word = ap (λ x. x / 2 ^ 24) (owner_keeps_root key.passes key.rows ws r word)
+      owner_version word = ap (λ x. x / ROOT_ROWS) (owner_keeps_root key.passes key.rows ws r word)
 
       owner_stands : (word : ℕ) (cells : List Cell) → Stands key.passes key.rows ws cells → Stands key.passes key.rows (us word) cells
       owner_stands word cells stand n c there = owner_keeps_cell key.passes key.rows ws r word c.row c.place row ∙ stand n c there
@@ -209,13 +210,13 @@ module _ {E : Type 0} (caller stamp : E → ℕ) (accepted : ℕ → E → Bool)
       row = fresh_row r fresh
 
       -- Write
-      pub wrote_row : (p word : ℕ) → p < 40 → Keeps (set ws (cell_at key.passes key.rows r p) word) (set vs i (knows (writing r p word k.view)))
+      pub wrote_row : (p word : ℕ) → p < WIDTH → Keeps (set ws (cell_at key.passes key.rows r p) word) (set vs i (knows (writing r p word k.view)))
       wrote_row p word place =
           let old = agrees in
           let written = old.written in
           let us = set ws (cell_at key.passes key.rows r p) word in
           let long = kept.sound.long in
-          moves us (knows (writing r p word k.view)) refl (ap (λ x. x / 2 ^ 24) (cell_keeps_root key.passes key.rows ws r p word))
+          moves us (knows (writing r p word k.view)) refl (ap (λ x. x / ROOT_ROWS) (cell_keeps_root key.passes key.rows ws r p word))
           (λ m pass other. cell_keeps_reservation key.passes key.rows ws r p word m pass)
           (λ a u apart there theirs n c at_n.
           let other = theirs.in_fresh n c at_n in
@@ -268,8 +269,8 @@ module _ {E : Type 0} (caller stamp : E → ℕ) (accepted : ℕ → E → Bool)
           in_fresh_now zero c there = subst (λ (x : Cell). In x.row k.view.core.fresh) (some-injective new c there) fresh
           in_fresh_now (suc n) c there = let was = old_cell n c there in agrees.written.in_fresh was.0 c was.1
 
-          placed_now : (n : ℕ) (c : Cell) → get_elem? (new ∷ forget r p cells) n ≡ some c → c.place < 40
-          placed_now zero c there = subst (λ (x : Cell). x.place < 40) (some-injective new c there) place
+          placed_now : (n : ℕ) (c : Cell) → get_elem? (new ∷ forget r p cells) n ≡ some c → c.place < WIDTH
+          placed_now zero c there = subst (λ (x : Cell). x.place < WIDTH) (some-injective new c there) place
           placed_now (suc n) c there = let was = old_cell n c there in agrees.written.placed was.0 c was.1
 
       -- Free of a fresh row
@@ -328,7 +329,7 @@ module _ {E : Type 0} (caller stamp : E → ℕ) (accepted : ℕ → E → Bool)
       reserved_words = set ws (reservation_at key.passes key.rows j) word
 
       reservation_version : version reserved_words ≡ version ws
-      reservation_version = ap (λ x. x / 2 ^ 24) (reservation_keeps_root key.passes key.rows ws j word)
+      reservation_version = ap (λ x. x / ROOT_ROWS) (reservation_keeps_root key.passes key.rows ws j word)
 
       reservation_stands : (cells : List Cell) → Stands key.passes key.rows ws cells → Stands key.passes key.rows reserved_words cells
       reservation_stands cells stand n c there = reservation_keeps_cell key.passes key.rows ws j word c.row c.place pass_within ∙ stand n c there

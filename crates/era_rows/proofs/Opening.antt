@@ -1,18 +1,22 @@
 -- The rule holds at the start.
-use Rattle.std.proofs.Common.{take, Bool, ◌≡◌, ℕ, zero, suc, ◌+◌, ◌-◌, ◌<◌, ltb, le-ltb, Some, None, List, [], ◌∷◌, flat_map, refl, sym, ap, subst, ◌∙◌, arith}
+use Rattle.std.proofs.Common.{take, Bool, ◌≡◌, ℕ, zero, suc, ◌+◌, ◌-◌, ◌<◌, ⊎_elim, ltb, le-ltb, Some, None, List, [], ◌∷◌, flat_map, refl, sym, ap, subst, ◌∙◌, arith}
+use Rattle.std.proofs.lemmas.Bool.{cases_eq}
 use Rattle.std.proofs.lemmas.List.{append-nil}
 use Rattle.std.proofs.lemmas.Option.{same_Some, none-some}
+use Rattle.era_core.specs.declared.sizes.TheConstants.{WIDTH}
 use Rattle.era_core.specs.Lists.{times}
 use Rattle.era_core.specs.Words.{start_words, tree_at}
 use Rattle.era_core.specs.Views.{start_view, held}
 use Rattle.era_core.specs.Versions.{Cell, Copy, cells_from, copy_at}
 use Rattle.era_core.specs.Sound.{Sound}
 use Rattle.era_core.specs.Machine.{start_views, start_copies}
-use Rattle.era_core.proofs.ListFacts.{times-tail}
+use Rattle.era_core.proofs.ListFacts.{times-head, times-tail}
 use Rattle.era_core.proofs.Starts.{start_sound, start_reservation, start_cell, start_version, start_row, start_live}
 use Rattle.era_rows.specs.Trees.{first_copy, blank_cells}
 use Rattle.era_rows.specs.Lists.{of_caller, IsListOf}
-use Rattle.era_rows.specs.Rule.{first_knows, Agrees, Kept}
+use Rattle.era_rows.specs.Rule.{knowing, first_knows, Agrees, Kept}
+use Rattle.era_rows.specs.Plays.{IsConsistent}
+use Rattle.era_rows.specs.Passes.{started_known}
 use Rattle.era_rows.specs.declared.views.Knows.{Knows}
 use Rattle.era_rows.specs.declared.sizes.Sizes.{Sizes}
 use Rattle.era_rows.proofs.Seats.{bit}
@@ -30,13 +34,13 @@ module _ (passes rows : ℕ) (some_row : 0 < rows) where
       ∙ ap (λ cells. record { row = 0; place = place; word = 0 } ∷ cells) (blank_from (place + 1) n)
 
   abbrev all_words : List ℕ → List Cell
-  all_words xs = flat_map (λ x. cells_from passes rows ws x 0 40) xs
+  all_words xs = flat_map (λ x. cells_from passes rows ws x 0 WIDTH) xs
 
   -- the copy of the start is row 0 alone
   first_is : copy_at passes rows ws 0 ≡ first_copy
   first_is =
       ap (λ xs. record { root = 0; rows = xs; cells = all_words xs }) (ap (tree_at passes rows ws) (sym (start_row passes rows)) ∙ start_live passes rows some_row)
-      ∙ ap (λ cells. record { root = 0; rows = 0 ∷ []; cells = cells }) (append-nil (cells_from passes rows ws 0 0 40) ∙ blank_from 0 40)
+      ∙ ap (λ cells. record { root = 0; rows = 0 ∷ []; cells = cells }) (append-nil (cells_from passes rows ws 0 0 WIDTH) ∙ blank_from 0 WIDTH)
 
   pub first_copies : start_copies rows passes ≡ first_copy ∷ []
   first_copies = ap (λ c. c ∷ []) first_is
@@ -141,3 +145,39 @@ module _ {E : Type 0} (caller stamp : E → ℕ) (accepted : ℕ → E → Bool)
           none_spent : (i : ℕ) (k : Knows E) → get_elem? (first_knows key ∷ []) i ≡ some k → k.view.core.number ≡ None → held k.view.core ≡ []
           none_spent zero k there none = ap (λ (x : Knows E). held x.view.core) (sym (some-injective (first_knows key) k there))
           none_spent (suc i) k there none = absurd (some-ne-none k (sym there))
+
+  -- a pass that begins is consistent
+  pub begins_consistent : ((shape : ℕ) → lawful shape first_copy × stands shape first_copy []) → (number : ℕ) (k : Knows E)
+      → k.seen ≡ [] → k.lists ≡ (number, []) ∷ [] → k.view ≡ started_known key.shape key.rows key.passes key.passes number
+      → IsConsistent caller stamp accepted lawful stands right k
+  begins_consistent begins number k no_entry own knows =
+      subst (λ es. IsConsistent caller stamp accepted lawful stands right (knowing es k.lists k.view)) (sym no_entry)
+      (subst (λ lists. IsConsistent caller stamp accepted lawful stands right (knowing [] lists k.view)) (sym own)
+      (subst (λ view. IsConsistent caller stamp accepted lawful stands right (knowing [] ((number, []) ∷ []) view)) (sym knows) begun))
+    where
+      begun : IsConsistent caller stamp accepted lawful stands right (knowing [] ((number, []) ∷ []) (started_known key.shape key.rows key.passes key.passes number))
+      begun = record {
+        logged = record {
+          accepts = λ n e there. absurd (some-ne-none e (sym there));
+          judged = λ n e there. absurd (some-ne-none e (sym there));
+          stamped = λ n e there. absurd (some-ne-none e (sym there));
+          begun = λ n e there. absurd (some-ne-none e (sym there));
+        };
+        held = held_begun;
+        once = λ c.
+            ⊎_elim
+            (λ e. (let head = times-head number [] in let same : times c (number ∷ []) ≡ times number (number ∷ []) = ap (λ y. times y (number ∷ [])) e in omega arith))
+            (λ apart. let tail = times-tail c number [] apart in omega arith)
+            (cases_eq c number);
+        paired = refl;
+        means = means_begun;
+      }
+        where
+          held_begun : (i c : ℕ) (es : List E) → get_elem? {A = ℕ × List E} ((number, []) ∷ []) i ≡ some (c, es) → IsListOf caller stamp accepted right key.shape [] 0 c es
+          held_begun zero c es there =
+              subst (λ (t : ℕ × List E). IsListOf caller stamp accepted right key.shape [] 0 t.0 t.1) (some-injective (number, []) (c, es) there) (no_entries [] 0 number refl)
+          held_begun (suc i) c es there = absurd (some-ne-none (c, es) (sym there))
+
+          means_begun : (n : ℕ) (c : Copy) → get_elem? (first_copy ∷ []) n ≡ some c → lawful key.shape c × stands key.shape c (take n [])
+          means_begun zero c there = subst (λ (x : Copy). lawful key.shape x × stands key.shape x []) (some-injective first_copy c there) (begins key.shape)
+          means_begun (suc n) c there = absurd (some-ne-none c (sym there))

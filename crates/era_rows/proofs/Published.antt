@@ -3,7 +3,7 @@ use Rattle.std.proofs.Common.{◌≡◌, ℕ, ◌+◌, ◌<◌, ◌≤◌, Bool,
 use Rattle.std.proofs.lemmas.Bool.{and_parts}
 use Rattle.std.proofs.lemmas.List.{length-append, length-map, length_push}
 use Rattle.era_core.specs.Lists.{times, In, is_in, without}
-use Rattle.era_core.specs.Views.{rows_in, batch_of}
+use Rattle.era_core.specs.Views.{rows_in, versions_of, batch_of}
 use Rattle.era_core.specs.Versions.{Cell, Copy}
 use Rattle.era_core.proofs.BatchFacts.{times-without_kept}
 use Rattle.era_rows.specs.Trees.{IsTree}
@@ -11,13 +11,15 @@ use Rattle.era_rows.specs.Known.{Known, copy_of, pinned_copy, copy_known, losing
 use Rattle.era_rows.specs.Lists.{IsPrefix}
 use Rattle.era_rows.specs.May.{AreReplaced}
 use Rattle.era_rows.specs.Held.{HoldsRows, HoldsTree, rows_at, rows_of, IsTied}
+use Rattle.era_rows.specs.Ring.{AreInOrder}
 use Rattle.era_rows.specs.Passes.{HasRead}
 use Rattle.era_rows.specs.Reach.{ReachesTree}
-use Rattle.era_rows.proofs.Room.{AreDifferent, AreBelow, different-push, below-push}
+use Rattle.era_core.proofs.Room.{AreDifferent, AreBelow, different-push, below-push}
 use Rattle.era_rows.proofs.Seats.{at_filter}
 use Rattle.era_rows.proofs.Moves.{not_in}
 use Rattle.era_rows.proofs.Copies.{copy_longer}
-use Rattle.era_rows.proofs.Retired.{filled_append, filled_batch, batched_more, batched_length}
+use Rattle.era_rows.proofs.Orders.{marked_in_order}
+use Rattle.era_rows.proofs.Retired.{version_there, filled_append, filled_batch, batched_in, batched_more, batched_length}
 use Rattle.era_rows.proofs.Tidying.{retired_few}
 use Rattle.era_rows.proofs.Flags.{in_list, from_in, is_in-without, loose_now, fresh_left, loose_again}
 use mathlib.Core.Option.{some}
@@ -45,9 +47,16 @@ module _ {k : Known} {number next : ℕ} {pinned : Option (ℕ × ℕ)} {fresh :
     some_pass = t.some_pass;
     filled = t.filled;
     few = t.few;
+    in_order = t.in_order;
     pinned_low = t.pinned_low;
     written_fresh = t.written_fresh;
   }
+
+  -- the pairs of a version behind those that are retired, whose versions are earlier ones
+  pub retired_in_order : (n : ℕ) (marks : List ℕ) → ((b : ℕ) → In b (versions_of k.core.retired) → b < n) → AreInOrder (retired ++ map (λ (r : ℕ). (n, r)) marks)
+  retired_in_order n marks older =
+      marked_in_order n retired marks t.in_order
+      (λ i p there. (let early = older p.0 (version_there p.1 p.0 k.core.retired (batched_in retired k.core.retired i p.0 p.1 t.batched there)) in omega arith))
 
   -- one more mark
   pub tied_mark : (row : ℕ) → times row marked ≡ 0 → row < k.rows → IsTied k number next pinned fresh loose (marked ++ row ∷ []) retired
@@ -66,10 +75,10 @@ module _ {k : Known} {number next : ℕ} {pinned : Option (ℕ × ℕ)} {fresh :
     (t : IsTied k number next pinned fresh loose marked retired) (q : ℕ) (mid : Known) (read : HasRead k mid) (flags : List Bool) (reached : List ℕ)
     (reaches : ReachesTree q k flags reached) where
   -- a publication was made: the rows of the new tree are no more fresh, and those that it replaced are retired
-  pub tied_published : (n p : ℕ) (gone : List (ℕ × ℕ)) (after : Known) → after ≡ publishing_tree n p q mid → HoldsRows after
+  pub tied_published : (n p : ℕ) (gone : List (ℕ × ℕ)) (after : Known) → after ≡ publishing_tree n p q mid → HoldsRows after → AreInOrder gone
       → ((m x : ℕ) → times x (rows_at m gone) ≡ times x (rows_of m (k.core.retired ++ batch_of n (without (copy_known k q).rows (pinned_copy k).rows))))
       → IsTied after number next pinned (filter (λ x. get_or flags x false) fresh) flags [] gone
-  tied_published n p gone after now holds batched =
+  tied_published n p gone after now holds in_order batched =
       subst (λ (z : Known). IsTied z number next pinned (filter (λ x. get_or flags x false) fresh) flags [] gone) (sym is_now)
       (record {
         numbered = t.numbered;
@@ -89,6 +98,7 @@ module _ {k : Known} {number next : ℕ} {pinned : Option (ℕ × ℕ)} {fresh :
         some_pass = t.some_pass;
         filled = filled_append k.core.retired (batch_of n (without new (pinned_copy k).rows)) t.filled (filled_batch n (without new (pinned_copy k).rows));
         few = t.few;
+        in_order = in_order;
         pinned_low = t.pinned_low;
         written_fresh = λ i c there.
             let was = at_filter (λ (x : Cell). not (is_in x.row new)) k.written i c there in
@@ -132,6 +142,7 @@ module _ {k : Known} {number next : ℕ} {pinned : Option (ℕ × ℕ)} {fresh :
         some_pass = t.some_pass;
         filled = t.filled;
         few = t.few;
+        in_order = t.in_order;
         pinned_low = t.pinned_low;
         written_fresh = t.written_fresh;
       })

@@ -1,11 +1,12 @@
 -- Publish: what it keeps and tells, where it finds the pinned root word and where it finds another one.
-use Rattle.std.proofs.Common.{◌≡◌, ◌≢◌, ℕ, ◌+◌, ◌-◌, ◌/◌, ◌%◌, ◌^◌, ◌<◌, ◌≤◌, ⊎_elim, inl, inr, Bool, true, cond, not, Some, List, [], ◌∷◌, ◌++◌, map, take, length, set, slice_index, refl, sym, ap, subst, ◌∙◌, arith, lt-ltb, eqb, Option, get_or-set_same, length-append}
+use Rattle.std.proofs.Common.{◌≡◌, ◌≢◌, ℕ, ◌+◌, ◌-◌, ◌/◌, ◌%◌, ◌<◌, ◌≤◌, ⊎_elim, inl, inr, Bool, true, cond, not, Some, List, [], ◌∷◌, ◌++◌, map, take, length, set, slice_index, refl, sym, ap, subst, ◌∙◌, arith, lt-ltb, eqb, Option, get_or-set_same, length-append}
 use Rattle.std.proofs.Math.Seq.{take-length}
 use Rattle.std.proofs.lemmas.Bool.{cases_lt}
 use Rattle.std.proofs.lemmas.List.{append-nil, take-append-le, set-get_or}
 use Rattle.std.proofs.lemmas.Option.{same_Some, none-some}
 use Rattle.atomic_table.specs.Table.{Me, Act, keeps, Valid, carried_after, stepped, step, Allows}
 use Rattle.atomic_table.proofs.Lists.{exchanged, set_again}
+use Rattle.era_core.specs.declared.sizes.TheConstants.{WIDTH, ROOT_ROWS, MOST_ROWS}
 use Rattle.era_core.specs.Lists.{times, In, is_in}
 use Rattle.era_core.specs.Words.{root_word, version, tree_at}
 use Rattle.era_core.specs.Views.{View, publishing}
@@ -42,7 +43,7 @@ module _ {E : Type 0} (caller stamp : E → ℕ) (accepted : ℕ → E → Bool)
     (right : ℕ → E → List E → Type 0) (key : Sizes) (fits : (shape : ℕ) (c : Copy) → lawful shape c → IsTree c) where
   module _ (ws : List ℕ) (vs : List (Knows E)) (kept : Kept caller stamp accepted lawful stands right key ws vs) (i j : ℕ) (k : Knows E)
       (at : get_elem? vs i ≡ some k) (mine : k.view.core.number ≡ Some j) (n p q : ℕ) (e : E) (may : MayPublish caller stamp accepted lawful stands right n p q e k)
-      (row : q < key.rows) (few : key.rows ≤ 262144) (found : slice_index ws 0 ≡ root_word n p) where
+      (row : q < key.rows) (few : key.rows ≤ MOST_ROWS) (found : slice_index ws 0 ≡ root_word n p) where
     abbrev idle : List View
     idle = start_views kept.made (key.passes - kept.made)
 
@@ -62,7 +63,7 @@ module _ {E : Type 0} (caller stamp : E → ℕ) (accepted : ℕ → E → Bool)
     pin = (kept.sound.each i core here).pin j n p mine may.pinned
 
     version_was : version ws ≡ n
-    version_was = ap (λ x. x / 2 ^ 24) found ∙ root_word-version n p (omega (arith, pin_within key.passes key.rows ws cores kept.copies kept.sound j n p core.retired pin))
+    version_was = ap (λ x. x / ROOT_ROWS) found ∙ root_word-version n p (omega (arith, pin_within key.passes key.rows ws cores kept.copies kept.sound j n p core.retired pin))
 
     -- what the pass has seen is the longest list, and it knows all versions
     log_long : length kept.log ≡ n
@@ -112,7 +113,7 @@ module _ {E : Type 0} (caller stamp : E → ℕ) (accepted : ℕ → E → Bool)
     known_stands m x there =
         ⊎_elim (λ t. old.written.stand t.0 x t.1) (λ t. pinned_stands t.0 x t.1) (at_append k.view.written (pinned_copy k.view).cells m x there)
 
-    known_placed : (m : ℕ) (x : Cell) → get_elem? cells m ≡ some x → x.place < 40
+    known_placed : (m : ℕ) (x : Cell) → get_elem? cells m ≡ some x → x.place < WIDTH
     known_placed m x there =
         ⊎_elim (λ t. old.written.placed t.0 x t.1) (λ t. pinned_closed.placed t.0 x t.1) (at_append k.view.written (pinned_copy k.view).cells m x there)
 
@@ -159,7 +160,7 @@ module _ {E : Type 0} (caller stamp : E → ℕ) (accepted : ℕ → E → Bool)
 
     version_is : version us ≡ n + 1
     version_is =
-        ap (λ x. x / 2 ^ 24) (get_or-set_same ws 0 (root_word (n + 1) q) 0 (omega (arith, kept.sound.long)))
+        ap (λ x. x / ROOT_ROWS) (get_or-set_same ws 0 (root_word (n + 1) q) 0 (omega (arith, kept.sound.long)))
         ∙ root_word-version (n + 1) q (omega (arith, few, row))
 
     is_mine : caller e ≡ j
@@ -316,6 +317,7 @@ module _ {E : Type 0} (caller stamp : E → ℕ) (accepted : ℕ → E → Bool)
         record {
           now = refl;
           seen_all = seen_all;
+          older = λ b waits. omega (arith, version_was, (kept.sound.each i core here).older b waits);
           holds = record {
             different = λ r. (let one = held_once key.passes key.rows us cores_now copies sound_now i j after.view.core at_now mine r in omega arith);
             inside = λ r there. (let low = held_within key.passes key.rows us cores_now copies sound_now i j after.view.core at_now mine r there in omega (arith, rows_are));
@@ -375,13 +377,13 @@ module _ {E : Type 0} (caller stamp : E → ℕ) (accepted : ℕ → E → Bool)
             (λ past.
             let last : n ≡ version ws = omega (arith, seat_pin.published, same_version, past) in
             let there = at_below kept.copies (version ws) (omega (arith, kept.sound.counted)) in
-            let root : p ≡ slice_index ws 0 % 2 ^ 24 = sym (seat_pin.rooted there.0 (subst (λ a. get_elem? kept.copies a ≡ some there.0) (sym last) there.1)) ∙ kept.sound.rooted there.0 there.1 in
+            let root : p ≡ slice_index ws 0 % ROOT_ROWS = sym (seat_pin.rooted there.0 (subst (λ a. get_elem? kept.copies a ≡ some there.0) (sym last) there.1)) ∙ kept.sound.rooted there.0 there.1 in
             absurd (other (omega (arith, last, root))))
             (cases_lt m (version ws));
       }
 
   module _ {S : Type 0} (fits : (shape : ℕ) (c : Copy) → lawful shape c → IsTree c) (slots id : ℕ) (me : Me S (Knows E)) (entry : Option E) (n p q : ℕ) (e : E) (says : entry ≡ Some e)
-      (may : MayPublish caller stamp accepted lawful stands right n p q e me.0) (row : q < key.rows) (few : key.rows ≤ 262144) where
+      (may : MayPublish caller stamp accepted lawful stands right n p q e me.0) (row : q < key.rows) (few : key.rows ≤ MOST_ROWS) where
     abbrev won : Knows E
     won = having_published caller n p q e me.0
 

@@ -4,13 +4,14 @@ use Rattle.std.specs.Prelude.{◌&&◌, is_some, unwrap_or}
 use Rattle.std.proofs.lemmas.Bool.{cases_eq, false≢true}
 use Rattle.std.proofs.lemmas.List.{append-nil, length-append, take_all, take-append-le, take_more}
 use Rattle.atomic_table.proofs.Lists.{at_snoc}
+use Rattle.era_core.specs.declared.sizes.TheConstants.{WIDTH, MOST_LINKS, KINDS}
 use Rattle.era_core.specs.Lists.{times, In, is_in, tree}
 use Rattle.era_core.specs.Words.{run_of, cell_at}
 use Rattle.era_core.specs.Versions.{Cell, look_up, known, known_links, Covers}
-use Rattle.era_core.proofs.ListFacts.{times-append, in_cases, in_head, in_tail, in-append_left, in-append_right}
+use Rattle.era_core.proofs.ListFacts.{times-append, in_cases, in_head, in-append_left, in-append_right}
 use Rattle.era_core.proofs.CopyFacts.{at_append}
 use Rattle.era_core.proofs.WordFacts.{links_by-same}
-use Rattle.era_core.proofs.TreeFacts.{tree_root}
+use Rattle.era_core.proofs.TreeFacts.{from_flat_map, tree_root}
 use Rattle.era_core.proofs.Marks.{in_at}
 use Rattle.era_core.proofs.Walks.{in_run}
 use Rattle.era_rows.specs.Trees.{IsTree}
@@ -48,19 +49,19 @@ read_more k mid after first second = record {
       ⊎_elim
       (λ early. first.only early.0 l early.1)
       (λ late.
-      subst (λ (z : Known). (r p : ℕ) × In r z.core.fresh × (p < 40) × (l.0 ≡ cell_at z.passes z.rows r p)) first.now (second.only late.0 l late.1))
+      subst (λ (z : Known). (r p : ℕ) × In r z.core.fresh × (p < WIDTH) × (l.0 ≡ cell_at z.passes z.rows r p)) first.now (second.only late.0 l late.1))
       (at_append first.more second.more i l there);
 }
 
 -- words were read, and then one more, of a fresh row
-pub read_word : (k mid after : Known) (r p i w : ℕ) → HasRead k mid → In r k.core.fresh → p < 40 → i ≡ cell_at k.passes k.rows r p → after ≡ reading_word i w mid → HasRead k after
+pub read_word : (k mid after : Known) (r p i w : ℕ) → HasRead k mid → In r k.core.fresh → p < WIDTH → i ≡ cell_at k.passes k.rows r p → after ≡ reading_word i w mid → HasRead k after
 read_word k mid after r p i w read fresh near place now =
     read_more k mid after read (record {
       more = (i, w) ∷ [];
       last = Some w;
       now = now;
       only = λ n l there.
-          subst (λ (z : Known). (o q : ℕ) × In o z.core.fresh × (q < 40) × (l.0 ≡ cell_at z.passes z.rows o q)) (sym read.now)
+          subst (λ (z : Known). (o q : ℕ) × In o z.core.fresh × (q < WIDTH) × (l.0 ≡ cell_at z.passes z.rows o q)) (sym read.now)
           (⊎_elim
           (λ none. absurd (some-ne-none l (sym none)))
           (λ same. (r, p, fresh, near, ap (λ (x : Look). x.0) (sym same) ∙ place))
@@ -73,15 +74,6 @@ look_up_past [] more r p others = refl
 look_up_past (c ∷ cs) more r p others =
     ap (λ t. cond (t && eqb c.place p) (Some c.word) (look_up (cs ++ more) r p)) (ne_eqb c.row r (others 0 c refl))
     ∙ look_up_past cs more r p (λ i x there. others (suc i) x there)
-
--- a row of joined lists is a row of one of them
-pub from_flat_map : (f : ℕ → List ℕ) (xs : List ℕ) (x : ℕ) → In x (flat_map f xs) → (y : ℕ) × In y xs × In x (f y)
-from_flat_map f [] x here = absurd (omega arith)
-from_flat_map f (y ∷ ys) x here =
-    ⊎_elim
-    (λ none. let rest = from_flat_map f ys x (omega (arith, times-append x (f y) (flat_map f ys))) in (rest.0, in_tail rest.0 y ys rest.1, rest.2))
-    (λ some_times. (y, in_head y ys, omega arith))
-    (cases_eq (times x (f y)) 0)
 
 -- a walk from row q on has reached these rows, and has gone through the links of the first ones
 pub record IsWalking (k : Known) (q : ℕ) (loose : List Bool) (reached : List ℕ) (next : ℕ) : Type 0 where
@@ -267,28 +259,28 @@ look_up_known cells r p there = by_word (look_up cells r p) there
     by_word (Some w) there = refl
 
 -- a read finds the words that are known, also after others
-pub word_read : (k mid : Known) (r p : ℕ) → HasRead k mid → Covers (known_words k) r → p < 1 + min 39 (known (known_words k) r 0 / 4)
+pub word_read : (k mid : Known) (r p : ℕ) → HasRead k mid → Covers (known_words k) r → p < 1 + min MOST_LINKS (known (known_words k) r 0 / KINDS)
     → look_up (known_words mid) r p ≡ Some (known (known_words k) r p)
 word_read k mid r p read covers below =
     subst (λ (z : Known). look_up (known_words z) r p ≡ Some (known (known_words k) r p)) (sym read.now) (look_up_known (known_words k) r p (covers p below))
 
 -- the count of links that a read of word 0 gives
 pub count_is : (k : Known) (r count first : ℕ) → Covers (known_words k) r → ((w : ℕ) → look_up (known_words k) r 0 ≡ Some w → first ≡ w)
-    → count ≡ min (first / 4) 39 → count ≡ min 39 (known (known_words k) r 0 / 4)
+    → count ≡ min (first / KINDS) MOST_LINKS → count ≡ min MOST_LINKS (known (known_words k) r 0 / KINDS)
 count_is k r count first covers found is =
     let head = found (known (known_words k) r 0) (look_up_known (known_words k) r 0 (covers 0 (omega arith))) in
-    let same : first / 4 ≡ known (known_words k) r 0 / 4 = ap (λ w. w / 4) head in omega arith
+    let same : first / KINDS ≡ known (known_words k) r 0 / KINDS = ap (λ w. w / KINDS) head in omega arith
 
 -- and the link that a read of another place gives
 pub link_is : (k mid : Known) (r p count first word : ℕ) → HasRead k mid → Covers (known_words k) r
-    → ((w : ℕ) → look_up (known_words k) r 0 ≡ Some w → first ≡ w) → count ≡ min (first / 4) 39 → 1 ≤ p → p < count + 1
+    → ((w : ℕ) → look_up (known_words k) r 0 ≡ Some w → first ≡ w) → count ≡ min (first / KINDS) MOST_LINKS → 1 ≤ p → p < count + 1
     → ((w : ℕ) → look_up (known_words mid) r p ≡ Some w → word ≡ w)
     → (word ≡ known (known_words k) r p) × In word (known_links (known_words k) r)
 link_is k mid r p count first word read covers head is low high found =
     let f = known (known_words k) r in
     let counted = count_is k r count first covers head is in
     let same = found (f p) (word_read k mid r p read covers (omega arith)) in
-    (same, subst (λ w. In w (known_links (known_words k) r)) (sym same) (in_run f 1 (min 39 (f 0 / 4)) p low (omega arith)))
+    (same, subst (λ w. In w (known_links (known_words k) r)) (sym same) (in_run f 1 (min MOST_LINKS (f 0 / KINDS)) p low (omega arith)))
 
 -- the link at a place has had its turn
 pub link_turn : (rows : ℕ) (fresh before reached after : List ℕ) (loose flags : List Bool) (f : ℕ → ℕ) (place row : ℕ) → row < rows → row ≡ f place → 1 ≤ place

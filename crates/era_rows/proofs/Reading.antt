@@ -2,6 +2,7 @@
 use Rattle.std.proofs.Common.{◌≡◌, ℕ, ◌+◌, ◌<◌, ⊎_elim, Bool, Some, None, List, set, slice_index, refl, sym, ap, subst, ◌∙◌, arith}
 use Rattle.std.proofs.lemmas.List.{set-get_or}
 use Rattle.atomic_table.specs.Table.{State, Me, keeps, step, Allows}
+use Rattle.era_core.specs.declared.sizes.TheConstants.{WIDTH}
 use Rattle.era_core.specs.Words.{reservation_at, cell_at}
 use Rattle.era_core.specs.Versions.{Copy, Stands, look_up}
 use Rattle.era_core.proofs.CopyFacts.{at_append}
@@ -56,7 +57,7 @@ module _ {E : Type 0} (caller stamp : E → ℕ) (accepted : ℕ → E → Bool)
         → Keeps caller stamp accepted lawful stands right key (set s.words i (slice_index s.words i)) (set s.views id w)
     loaded s i w kept = subst (λ ws. Keeps caller stamp accepted lawful stands right key ws (set s.views id w)) (sym (set-get_or s.words i 0)) kept
 
-    reads_word : (r p : ℕ) → p < 40
+    reads_word : (r p : ℕ) → p < WIDTH
         → Allows (Held caller stamp accepted lawful stands right key) slots id me (cell_at key.passes key.rows r p) (λ n. n) (has_read (step slots (cell_at key.passes key.rows r p) 0 0 none) me)
     reads_word r p near s kept homes at bound = (
       after (reading_word i n known),
@@ -72,19 +73,19 @@ module _ {E : Type 0} (caller stamp : E → ℕ) (accepted : ℕ → E → Bool)
         n : ℕ
         n = slice_index s.words i
 
-        found : (q o w : ℕ) → o < 40 → i ≡ cell_at known.passes known.rows q o → look_up (known_words known) q o ≡ Some w → n ≡ w
+        found : (q o w : ℕ) → o < WIDTH → i ≡ cell_at known.passes known.rows q o → look_up (known_words known) q o ≡ Some w → n ≡ w
         found q o w close e is =
             let sizes = (agrees caller stamp accepted lawful stands right key s.words s.views kept id j me.0 at mine).sizes in
             let place : i ≡ cell_at key.passes key.rows q o = omega (arith, sizes.passes_are, sizes.rows_are) in
             ap (slice_index s.words) place ∙ look_up_stands key.passes key.rows s.words (known_words known) (words_stand s.words s.views kept id j me.0 at mine) q o w is
 
-        found_pinned : (q o w : ℕ) → o < 40 → i ≡ cell_at known.passes known.rows q o → look_up (pinned_copy known).cells q o ≡ Some w → n ≡ w
+        found_pinned : (q o w : ℕ) → o < WIDTH → i ≡ cell_at known.passes known.rows q o → look_up (pinned_copy known).cells q o ≡ Some w → n ≡ w
         found_pinned q o w close e is =
             let sizes = (agrees caller stamp accepted lawful stands right key s.words s.views kept id j me.0 at mine).sizes in
             let place : i ≡ cell_at key.passes key.rows q o = omega (arith, sizes.passes_are, sizes.rows_are) in
             ap (slice_index s.words) place ∙ look_up_stands key.passes key.rows s.words (pinned_copy known).cells (pinned_words_stand s.words s.views kept id j me.0 at mine) q o w is
 
-    pub reads_at : (r p place : ℕ) → place ≡ cell_at key.passes key.rows r p → p < 40
+    pub reads_at : (r p place : ℕ) → place ≡ cell_at key.passes key.rows r p → p < WIDTH
         → Allows (Held caller stamp accepted lawful stands right key) slots id me place (λ n. n) (has_read (step slots place 0 0 none) me)
     reads_at r p place place_is near =
         subst (λ x. Allows (Held caller stamp accepted lawful stands right key) slots id me x (λ n. n) (has_read (step slots x 0 0 none) me)) (sym place_is) (reads_word r p near)

@@ -1,13 +1,13 @@
 -- The rows that a pass retired: as pairs of a version and a row, and as batches.
-use Rattle.std.proofs.Common.{◌≡◌, ◌≢◌, ℕ, zero, suc, ◌+◌, ◌<◌, ◌≤◌, ⊎_elim, Bool, true, false, not, cond, eqb, lt-ltb, le-ltb, eq-eqb, ne_eqb, Option, List, [], ◌∷◌, ◌++◌, length, get_or, map, filter, refl, sym, ap, subst, ◌∙◌, arith, length-append}
-use Rattle.std.proofs.lemmas.List.{append_assoc}
+use Rattle.std.proofs.Common.{◌≡◌, ◌≢◌, ℕ, zero, suc, ◌+◌, ◌<◌, ◌≤◌, ⊎_elim, Bool, true, false, not, cond, eqb, lt-ltb, le-ltb, eq-eqb, ne_eqb, Option, List, [], ◌∷◌, ◌++◌, length, map, filter, refl, sym, ap, subst, ◌∙◌, arith, length-append}
+use Rattle.std.proofs.lemmas.List.{append_assoc, append-nil}
+use Rattle.std.proofs.lemmas.List.Elements.{filter-append}
 use Rattle.std.specs.Prelude.{◌&&◌}
-use Rattle.std.specs.List.{list_any, sum_by, swap_remove}
+use Rattle.std.specs.List.{list_any}
 use Rattle.std.proofs.lemmas.Bool.{cases_eq, or_left, or_right}
-use Rattle.std.proofs.lemmas.List.Sums.{sum_by-cons, sum_by-swap_remove}
 use Rattle.era_core.specs.Lists.{times, In, is_in, total, without}
-use Rattle.era_core.specs.Views.{Batch, rows_in, batch_of, without_row, clears}
-use Rattle.era_core.proofs.ListFacts.{times-append, times-head, in_head, total-append, total-le}
+use Rattle.era_core.specs.Views.{Batch, rows_in, versions_of, batch_of, without_row, clears}
+use Rattle.era_core.proofs.ListFacts.{times-append, times-head, in_head, in_tail, total-append, total-le}
 use Rattle.era_core.proofs.BatchFacts.{one_of_two, times-without_kept, part, not_in_one, cond-times, times-rows_in-row_gone}
 use Rattle.era_rows.specs.Held.{rows_at, rows_of}
 use Rattle.era_rows.specs.Passes.{blocked}
@@ -24,7 +24,7 @@ abbrev pub is_pair : ℕ → ℕ → ℕ × ℕ → ℕ
 is_pair n x p = cond (eqb p.0 n) (times x (p.1 ∷ [])) 0
 
 -- the pairs of a version with a row, counted
-counted_by : (n x : ℕ) (pairs : List (ℕ × ℕ)) → times x (rows_at n pairs) ≡ total (is_pair n x) pairs
+pub counted_by : (n x : ℕ) (pairs : List (ℕ × ℕ)) → times x (rows_at n pairs) ≡ total (is_pair n x) pairs
 counted_by n x [] = refl
 counted_by n x (p ∷ ps) = let rest = counted_by n x ps in let one = by_test (eqb p.0 n) in omega arith
   where
@@ -32,10 +32,6 @@ counted_by n x (p ∷ ps) = let rest = counted_by n x ps in let one = by_test (e
         ≡ cond b (times x (p.1 ∷ [])) 0 + times x (rows_at n ps)
     by_test true = omega arith
     by_test false = omega arith
-
-total_sum : {A : Type 0} (f : A → ℕ) (xs : List A) → sum_by f xs ≡ total f xs
-total_sum f [] = refl
-total_sum f (x ∷ xs) = let rest = total_sum f xs in sum_by-cons f x xs ∙ ap (λ n. f x + n) rest
 
 pub rows_of-append : (x n : ℕ) (xs ys : List Batch) → times x (rows_of n (xs ++ ys)) ≡ times x (rows_of n xs) + times x (rows_of n ys)
 rows_of-append x n [] ys = omega arith
@@ -111,9 +107,6 @@ batched_more n marks xs ps bs same batched =
     batched_append ps (map (λ (r : ℕ). (n, r)) marks) bs (batch_of n xs) batched
     (λ m x. counted_by m x (map (λ (r : ℕ). (n, r)) marks) ∙ marked_pairs m n x marks ∙ cond-times x (eqb n m) marks xs (same x) ∙ sym (rows_of-batch_of x m n xs))
 
-pub batched_none : AreBatched [] []
-batched_none n x = refl
-
 pair_here : (p : ℕ × ℕ) → is_pair p.0 p.1 p ≡ 1
 pair_here p = ap (λ t. cond t (times p.1 (p.1 ∷ [])) 0) (eq-eqb p.0 p.0 refl) ∙ times-head p.1 []
 
@@ -129,17 +122,11 @@ pub batched_in : (ps : List (ℕ × ℕ)) (bs : List Batch) (i n x : ℕ) → Ar
 batched_in ps bs i n x batched here =
     (let one = pair_here (n, x) in omega (arith, batched n x, counted_by n x ps, total-le (is_pair n x) ps i (n, x) here))
 
--- a row that stands once, in a pair that is taken out, is taken out of its batch
-pub batched_less : (ps : List (ℕ × ℕ)) (bs : List Batch) (i : ℕ) (p : ℕ × ℕ) → i < length ps → get_or ps i p ≡ p → times p.1 (rows_in bs) ≤ 1
-    → AreBatched ps bs → AreBatched (swap_remove ps i p) (without_row p.1 bs)
-batched_less ps bs i p within at once batched n x =
-    let f : ℕ × ℕ → ℕ = is_pair n x in
-    let was = counted_by n x ps in
-    let now = counted_by n x (swap_remove ps i p) in
-    let taken = sum_by-swap_remove f ps i p within in
-    let all = total_sum f ps in
-    let left = total_sum f (swap_remove ps i p) in
-    let one : f (get_or ps i p) ≡ f p = ap f at in
+-- a row that stands once, in the first pair, is taken out of its batch with that pair
+pub batched_less : (p : ℕ × ℕ) (ps : List (ℕ × ℕ)) (bs : List Batch) → times p.1 (rows_in bs) ≤ 1 → AreBatched (p ∷ ps) bs → AreBatched ps (without_row p.1 bs)
+batched_less p ps bs once batched n x =
+    let was : times x (rows_at n (p ∷ ps)) ≡ is_pair n x p + total (is_pair n x) ps = counted_by n x (p ∷ ps) in
+    let now = counted_by n x ps in
     let same = batched n x in
     ⊎_elim
     (λ e.
@@ -150,18 +137,27 @@ batched_less ps bs i p within at once batched n x =
     ⊎_elim
     (λ v.
     let le = rows_of-le x n bs in
-    let H : f p ≡ 1 = ap (λ m. is_pair m x p) (sym v) ∙ ap (λ y. is_pair p.0 y p) e ∙ pair_here p in omega arith)
+    let here : is_pair n x p ≡ 1 = ap (λ m. is_pair m x p) (sym v) ∙ ap (λ y. is_pair p.0 y p) e ∙ pair_here p in omega arith)
     (λ w.
-    let none : f p ≡ 0 = ap (λ t. cond t (times x (p.1 ∷ [])) 0) (ne_eqb p.0 n w) in
+    let none : is_pair n x p ≡ 0 = ap (λ t. cond t (times x (p.1 ∷ [])) 0) (ne_eqb p.0 n w) in
     let two = rows_of-two x p.0 n bs w in
     let there : is_pair p.0 x p ≡ 1 = ap (λ y. is_pair p.0 y p) e ∙ pair_here p in
-    let other_all = total_sum (is_pair p.0 x) ps in
-    let other_taken = sum_by-swap_remove (is_pair p.0 x) ps i p within in
-    let other_one : is_pair p.0 x (get_or ps i p) ≡ is_pair p.0 x p = ap (is_pair p.0 x) at in
-    omega (arith, batched p.0 x, counted_by p.0 x ps))
+    let other : times x (rows_at p.0 (p ∷ ps)) ≡ is_pair p.0 x p + total (is_pair p.0 x) ps = counted_by p.0 x (p ∷ ps) in
+    omega (arith, batched p.0 x))
     (cases_eq p.0 n))
     (λ apart. (let none = pair_other n x p apart in omega (arith, rows_of-without_row x p.1 n bs apart)))
     (cases_eq x p.1)
+
+-- a row of a batch of a version shows that there is a batch of that version
+pub version_there : (x n : ℕ) (bs : List Batch) → In x (rows_of n bs) → In n (versions_of bs)
+version_there x n [] here = absurd (omega arith)
+version_there x n (b ∷ bs) here =
+    ⊎_elim
+    (λ e. subst (λ m. In n (m ∷ versions_of bs)) (sym e) (in_head n (versions_of bs)))
+    (λ apart.
+    let none : times x (cond (eqb b.0 n) b.1 []) ≡ 0 = ap (λ t. times x (cond t b.1 [])) (ne_eqb b.0 n apart) in
+    in_tail n b.0 (versions_of bs) (version_there x n bs (omega (arith, times-append x (cond (eqb b.0 n) b.1 []) (rows_of n bs)))))
+    (cases_eq b.0 n)
 
 -- a pair that is counted stands at some place
 found_pair : (n x : ℕ) (ps : List (ℕ × ℕ)) → 0 < total (is_pair n x) ps → (i : ℕ) × (get_elem? ps i ≡ some (n, x))
@@ -258,6 +254,16 @@ without_same r (x ∷ xs) none =
     ap (λ b. cond (not b) (x ∷ without (r ∷ []) xs) (without (r ∷ []) xs)) stays
     ∙ ap (λ ys. x ∷ ys) (without_same r xs (omega arith))
 
+-- the last row of a list, which stands there once, is dropped
+pub without_last : (r : ℕ) (xs : List ℕ) → times r (xs ++ r ∷ []) ≤ 1 → without (r ∷ []) (xs ++ r ∷ []) ≡ xs
+without_last r xs once =
+    let none : times r xs ≡ 0 = (let parts = times-append r xs (r ∷ []) in let one = times-head r [] in omega arith) in
+    let gone : without (r ∷ []) (r ∷ []) ≡ [] = ap (λ b. cond (not b) (r ∷ []) []) (lt-ltb 0 (times r (r ∷ [])) (in_head r [])) in
+    filter-append (λ x. not (is_in x (r ∷ []))) xs (r ∷ [])
+    ∙ ap (λ ys. ys ++ without (r ∷ []) (r ∷ [])) (without_same r xs none)
+    ∙ ap (λ ys. xs ++ ys) gone
+    ∙ append-nil xs
+
 module _ (least : Option ℕ) where
   blocked-append : (xs ys : List Batch) → blocked least (xs ++ ys) ≡ blocked least xs ++ blocked least ys
   blocked-append [] ys = refl
@@ -328,9 +334,6 @@ filled_still r (c ∷ bs) i b here = by_rows (λ n there. filled_still r bs n b 
     by_rows rest [] n there = rest n there
     by_rows rest (x ∷ xs) zero there = (let e = ap (λ (y : Batch). length y.1) (some-injective (c.0, x ∷ xs) b there) in omega arith)
     by_rows rest (x ∷ xs) (suc n) there = rest n there
-
-pub filled_none : AreFilled []
-filled_none i b here = absurd (some-ne-none b (sym here))
 
 pub filled_append : (bs cs : List Batch) → AreFilled bs → AreFilled cs → AreFilled (bs ++ cs)
 filled_append bs cs first second i b here = ⊎_elim (λ mine. first i b mine) (λ theirs. second theirs.0 b theirs.1) (at_either bs cs i b here)

@@ -1,7 +1,7 @@
 -- A search for a row without an owner, look by look.
 use Rattle.std.proofs.Common.{◌≡◌, ℕ, ◌+◌, ◌<◌, ◌≤◌, ⊎_elim, Option, Some, None, List, [], ◌∷◌, ◌++◌, length, refl, sym, ap, subst, ◌∙◌, arith}
 use Rattle.std.proofs.lemmas.Bool.{cases_lt}
-use Rattle.std.proofs.lemmas.List.{append-nil, append_assoc}
+use Rattle.std.proofs.lemmas.List.{append_assoc}
 use Rattle.atomic_table.proofs.Lists.{at_longer, at_last, at_snoc}
 use Rattle.era_core.specs.Words.{owner_at}
 use Rattle.era_core.proofs.CopyFacts.{at_append}
@@ -10,7 +10,7 @@ use Rattle.era_rows.specs.Held.{IsAlone, IsOwn}
 use Rattle.era_rows.specs.Plays.{IsUnused}
 use Rattle.era_rows.specs.Passes.{having_looked, OnlyTaken, Takes, FindsTaken, Searches, SearchesOrFull}
 use Rattle.era_rows.proofs.Seats.{at_behind}
-use mathlib.Core.Option.{some, some-ne-none}
+use mathlib.Core.Option.{some}
 use lib.ListN.{get_elem?}
 
 -- looks at owners of these rows are looks at owners of more rows
@@ -23,16 +23,6 @@ only_joined : (passes rows from to : ℕ) (first second : List Look) → OnlyTak
     → OnlyTaken passes rows from to (first ++ second)
 only_joined passes rows from to first second one other i l there =
     ⊎_elim (λ early. one early.0 l early.1) (λ late. other late.0 l late.1) (at_append first second i l there)
-
--- no row has been looked at yet
-pub search_start : (from : ℕ) (k : Known) → FindsTaken from from k k
-search_start from k = (
-  [],
-  ap (λ looks. record k { looks = looks }) (sym (append-nil k.looks)),
-  λ r low high. absurd (omega arith),
-  λ i l there. absurd (some-ne-none l (sym there)),
-  λ alone r low high. absurd (omega arith),
-)
 
 -- a row that is the pass's own after looks is its own before them
 own_before : (more : List Look) (k mid : Known) (r : ℕ) → mid ≡ having_looked more k → (IsAlone mid → IsOwn r mid) → IsAlone k → IsOwn r k

@@ -1,5 +1,5 @@
 -- What a pass keeps at run time agrees with what it knows where it is joined with another, and along a scan.
-use Rattle.std.proofs.Common.{◌≡◌, ℕ, zero, suc, ◌+◌, ◌<◌, ◌≤◌, ◌⊎◌, ⊎_elim, inl, inr, min, Bool, true, false, cond, ne_eqb, Option, Some, None, List, [], ◌∷◌, ◌++◌, length, take, refl, sym, ap, subst, ◌∙◌, arith, lt-ltb, le-ltb, length-append}
+use Rattle.std.proofs.Common.{◌≡◌, ℕ, suc, ◌+◌, ◌<◌, ◌≤◌, ◌⊎◌, ⊎_elim, inl, inr, min, Bool, true, false, cond, ne_eqb, Option, Some, None, List, [], ◌∷◌, ◌++◌, length, refl, sym, ap, subst, ◌∙◌, arith, lt-ltb, le-ltb, length-append}
 use Rattle.std.specs.Prelude.{◌||◌, nat_lt, slice_index_or}
 use Rattle.std.proofs.lemmas.Bool.{cases_lt, or_left}
 use Rattle.std.proofs.lemmas.List.{append_assoc, length_push}
@@ -11,23 +11,18 @@ use Rattle.era_core.specs.Views.{rows_in, held, reserved, lesser}
 use Rattle.era_core.proofs.ListFacts.{times-append, in-append_left, in-append_right, at_longer, at_end}
 use Rattle.era_rows.specs.Passes.{looks_of, least_of, Scans}
 use Rattle.era_rows.specs.Known.{Known, Look, joining_known, looking_at}
-use Rattle.era_rows.specs.Held.{HoldsRows, IsTied}
+use Rattle.era_rows.specs.Held.{HoldsRows, rows_at, IsTied}
+use Rattle.era_rows.specs.Ring.{AreInOrder}
 use Rattle.era_rows.specs.Plays.{IsNow}
 use Rattle.era_rows.specs.Rule.{knowing, both_knows}
 use Rattle.era_rows.specs.declared.views.Knows.{Knows}
-use Rattle.era_rows.proofs.Room.{length-below}
+use Rattle.era_core.proofs.Room.{length-below}
 use Rattle.era_rows.proofs.Copies.{no_tree}
 use Rattle.era_rows.proofs.Holding.{fresh_inside}
 use Rattle.era_rows.proofs.Joining.{at_either}
-use Rattle.era_rows.proofs.Retired.{batched_append, batched_length, filled_append}
-use mathlib.Core.Option.{some, some-injective, some-ne-none}
+use Rattle.era_rows.proofs.Retired.{rows_of-append, batched_append, batched_length, filled_append}
+use mathlib.Core.Option.{some}
 use lib.ListN.{get_elem?}
-
--- one more element of a list, counted
-times_take : (r i x : ℕ) (xs : List ℕ) → get_elem? xs i ≡ some x → times r (take (suc i) xs) ≡ times r (take i xs) + times r (x ∷ [])
-times_take r i x [] here = absurd (some-ne-none x (sym here))
-times_take r zero x (y ∷ ys) here = (let e : times r (y ∷ []) ≡ times r (x ∷ []) = ap (λ z. times r (z ∷ [])) (some-injective y x here) in omega arith)
-times_take r (suc i) x (y ∷ ys) here = (let rest = times_take r i x ys here in omega arith)
 
 -- a row is in two lists where it is in one of them
 is_in_either : (r : ℕ) (xs ys : List ℕ) → is_in r (xs ++ ys) ≡ (is_in r xs || is_in r ys)
@@ -81,10 +76,11 @@ module _ {k l : Known} {number next number' next' : ℕ} {pinned pinned' : Optio
   either_order false true = refl
   either_order false false = refl
 
-  -- a pass that takes over what another has
-  pub tied_joined : (flags : List Bool) → k.core.pinned ≡ None → length flags ≡ k.rows → ((r : ℕ) → slice_index_or flags r false ≡ cond (is_in r fresh') true (slice_index_or loose r false))
-      → IsTied (joining_known k l) number next pinned (fresh ++ fresh') flags marked (retired ++ retired')
-  tied_joined flags unpinned counted flagged = record {
+  -- a pass that takes over what another has, whose retired rows are merged with its own
+  pub tied_joined : (flags : List Bool) (gone : List (ℕ × ℕ)) → k.core.pinned ≡ None → length flags ≡ k.rows → ((r : ℕ) → slice_index_or flags r false ≡ cond (is_in r fresh') true (slice_index_or loose r false))
+      → AreInOrder gone → ((n x : ℕ) → times x (rows_at n gone) ≡ times x (rows_at n retired) + times x (rows_at n retired'))
+      → IsTied (joining_known k l) number next pinned (fresh ++ fresh') flags marked gone
+  tied_joined flags gone unpinned counted flagged in_order all = record {
     numbered = t.numbered;
     turn = t.turn;
     pinned_is = t.pinned_is;
@@ -94,7 +90,7 @@ module _ {k l : Known} {number next number' next' : ℕ} {pinned pinned' : Optio
     counted = counted;
     flagged = λ r row.
         flagged r ∙ either_order (is_in r fresh') (slice_index_or loose r false) ∙ ap (λ b. b || is_in r fresh') (t.flagged r row) ∙ ap (λ xs. is_in r k.core.fresh || is_in r xs) u.fresh_are ∙ sym (is_in_either r k.core.fresh l.core.fresh);
-    batched = batched_append retired retired' k.core.retired l.core.retired t.batched u.batched;
+    batched = λ n x. omega (arith, all n x, rows_of-append x n k.core.retired l.core.retired, t.batched n x, u.batched n x);
     holds = holds;
     tree = no_tree (joining_known k l) unpinned;
     marks_different = t.marks_different;
@@ -108,6 +104,7 @@ module _ {k l : Known} {number next number' next' : ℕ} {pinned pinned' : Optio
     some_pass = t.some_pass;
     filled = filled_append k.core.retired l.core.retired t.filled u.filled;
     few = t.few;
+    in_order = in_order;
     pinned_low = λ n p e. absurd (none-some (n, p) (sym unpinned ∙ e));
   }
 
@@ -186,9 +183,6 @@ own_more k words w own last j low is =
 -- a pass has scanned so many reservations: the words that it found, and the least version that they name
 abbrev pub HasScanned : ℕ → Option ℕ → Known → Known → Type 0
 HasScanned j least before after = (words : List ℕ) × (length words ≡ j) × (least ≡ least_of words) × (after ≡ scan_known words before) × HasOwn before words
-
-pub scanned_none : (k : Known) → HasScanned 0 None k k
-scanned_none k = ([], refl, refl, refl, λ j low. absurd (omega arith))
 
 scan_number : (words : List ℕ) (k : Known) → (scan_known words k).core.number ≡ k.core.number
 scan_number [] k = refl

@@ -1,9 +1,11 @@
 -- What a pass keeps at run time agrees with what it knows, after each of its steps.
-use Rattle.std.proofs.Common.{◌≡◌, ◌≢◌, ℕ, zero, suc, ◌+◌, ◌/◌, ◌%◌, ◌^◌, ◌<◌, ◌≤◌, ⊎_elim, Bool, true, false, Option, Some, None, List, [], ◌∷◌, ◌++◌, length, replicate, set, refl, sym, ap, subst, ◌∙◌, arith, lt-ltb, le-ltb, length-set, get_or-set_same, get_or-set_other}
+use Rattle.std.proofs.Common.{◌≡◌, ◌≢◌, ℕ, zero, suc, ◌+◌, ◌*◌, ◌/◌, ◌%◌, ◌^◌, ◌<◌, ◌≤◌, ⊎_elim, Bool, true, false, Option, Some, None, List, [], ◌∷◌, ◌++◌, length, replicate, set, refl, sym, ap, subst, ◌∙◌, arith, lt-ltb, le-ltb, length-set, get_or-set_same, get_or-set_other}
 use Rattle.std.specs.Prelude.{nat_lt, slice_index_or}
+use Rattle.std.proofs.Math.Nat.{div-le_of_le-mul, mul-le-mul_right}
 use Rattle.std.proofs.lemmas.Bool.{cases_eq}
 use Rattle.std.proofs.lemmas.List.{get_or-replicate}
 use Rattle.std.proofs.lemmas.Option.{none-some, same_Some}
+use Rattle.era_core.specs.declared.sizes.TheConstants.{ROOT_ROWS, MOST_ROWS}
 use Rattle.era_core.specs.Lists.{times, In, is_in, without}
 use Rattle.era_core.specs.Views.{rows_in, held}
 use Rattle.era_core.specs.Versions.{Cell, Copy}
@@ -17,7 +19,8 @@ use Rattle.era_rows.proofs.Seats.{at_filter}
 use Rattle.era_rows.proofs.Copies.{no_tree}
 use Rattle.era_rows.proofs.Holding.{fresh_inside}
 use Rattle.era_rows.proofs.Moves.{not_in}
-use Rattle.era_rows.proofs.Room.{times-without_le, room}
+use Rattle.era_rows.proofs.Orders.{none_in_order}
+use Rattle.era_core.proofs.Room.{times-without_le, room}
 use mathlib.Core.Option.{some, some-injective, some-ne-none}
 use lib.ListN.{get_elem?, length-replicate}
 
@@ -67,30 +70,7 @@ module _ {k : Known} {number next : ℕ} {pinned : Option (ℕ × ℕ)} {fresh :
     some_pass = t.some_pass;
     filled = t.filled;
     few = t.few;
-    pinned_low = t.pinned_low;
-    written_fresh = t.written_fresh;
-  }
-
-  -- the next search begins elsewhere
-  pub tied_next : (turn : ℕ) → turn ≤ k.rows → IsTied k number turn pinned fresh loose marked retired
-  tied_next turn low = record {
-    numbered = t.numbered;
-    turn = low;
-    pinned_is = t.pinned_is;
-    settled = t.settled;
-    silent = t.silent;
-    fresh_are = t.fresh_are;
-    counted = t.counted;
-    flagged = t.flagged;
-    batched = t.batched;
-    holds = t.holds;
-    tree = t.tree;
-    marks_different = t.marks_different;
-    marks_inside = t.marks_inside;
-    knows_pinned = t.knows_pinned;
-    some_pass = t.some_pass;
-    filled = t.filled;
-    few = t.few;
+    in_order = t.in_order;
     pinned_low = t.pinned_low;
     written_fresh = t.written_fresh;
   }
@@ -148,6 +128,7 @@ module _ {k : Known} {number next : ℕ} {pinned : Option (ℕ × ℕ)} {fresh :
     some_pass = t.some_pass;
     filled = t.filled;
     few = t.few;
+    in_order = t.in_order;
     pinned_low = t.pinned_low;
     written_fresh = λ i c there. in-append_left c.row k.core.fresh (r ∷ []) (t.written_fresh i c there);
   }
@@ -191,6 +172,7 @@ module _ {k : Known} {number next : ℕ} {pinned : Option (ℕ × ℕ)} {fresh :
     some_pass = t.some_pass;
     filled = t.filled;
     few = t.few;
+    in_order = t.in_order;
     pinned_low = t.pinned_low;
     written_fresh = all_fresh;
   }
@@ -199,11 +181,11 @@ module _ {k : Known} {number next : ℕ} {pinned : Option (ℕ × ℕ)} {fresh :
       all_fresh zero c there = subst (λ (x : Cell). In x.row k.core.fresh) (some-injective (record { row = r; place = p; word = w }) c there) here
       all_fresh (suc i) c there = let old = at_filter _ k.written i c there in t.written_fresh old.0 c old.1
 
-  -- Free of a fresh row
-  pub tied_given_back : (r : ℕ) → In r k.core.fresh → IsTied (giving_back r k) number next pinned (without (r ∷ []) fresh) (set loose r false) marked retired
+  -- Free of a fresh row, at which the next search begins
+  pub tied_given_back : (r : ℕ) → In r k.core.fresh → IsTied (giving_back r k) number r pinned (without (r ∷ []) fresh) (set loose r false) marked retired
   tied_given_back r here = record {
     numbered = t.numbered;
-    turn = t.turn;
+    turn = (let low = tied_row r here in omega arith);
     pinned_is = t.pinned_is;
     settled = t.settled;
     silent = t.silent;
@@ -227,6 +209,7 @@ module _ {k : Known} {number next : ℕ} {pinned : Option (ℕ × ℕ)} {fresh :
     some_pass = t.some_pass;
     filled = t.filled;
     few = t.few;
+    in_order = t.in_order;
     pinned_low = t.pinned_low;
     written_fresh = λ i c there.
         let old = at_filter _ k.written i c there in
@@ -272,19 +255,20 @@ module _ {k : Known} {number next : ℕ} {pinned : Option (ℕ × ℕ)} {fresh :
     some_pass = t.some_pass;
     filled = t.filled;
     few = t.few;
+    in_order = t.in_order;
     pinned_low = λ n p e. absurd (none-some (n, p) e);
     written_fresh = t.written_fresh;
   }
 
   -- Pin: the reserved version was noted and is so no more
-  pub tied_pinned : (n w v : ℕ) (copies : List Copy) → HoldsTree (pinning_root w copies (reserving n (noting_root v k))) → w / 2 ^ 24 < length copies → w < 2 ^ 64
-      → IsTied (pinning_root w copies (reserving n (noting_root v k))) number next (Some (w / 2 ^ 24, w % 2 ^ 24)) fresh loose marked retired
+  pub tied_pinned : (n w v : ℕ) (copies : List Copy) → HoldsTree (pinning_root w copies (reserving n (noting_root v k))) → w / ROOT_ROWS < length copies → w < 2 ^ 64
+      → IsTied (pinning_root w copies (reserving n (noting_root v k))) number next (Some (w / ROOT_ROWS, w % ROOT_ROWS)) fresh loose marked retired
   tied_pinned n w v copies tree low word = record {
     numbered = t.numbered;
     turn = t.turn;
     pinned_is = refl;
     settled = refl;
-    silent = λ e. absurd (none-some (w / 2 ^ 24, w % 2 ^ 24) (sym e));
+    silent = λ e. absurd (none-some (w / ROOT_ROWS, w % ROOT_ROWS) (sym e));
     fresh_are = t.fresh_are;
     counted = t.counted;
     flagged = t.flagged;
@@ -293,12 +277,13 @@ module _ {k : Known} {number next : ℕ} {pinned : Option (ℕ × ℕ)} {fresh :
     tree = tree;
     marks_different = t.marks_different;
     marks_inside = t.marks_inside;
-    knows_pinned = λ m p e. (let same = ap (λ (pin : ℕ × ℕ). pin.0) (same_Some (w / 2 ^ 24, w % 2 ^ 24) (m, p) e) in omega arith);
+    knows_pinned = λ m p e. (let same = ap (λ (pin : ℕ × ℕ). pin.0) (same_Some (w / ROOT_ROWS, w % ROOT_ROWS) (m, p) e) in omega arith);
     some_pass = t.some_pass;
     filled = t.filled;
     few = t.few;
+    in_order = t.in_order;
     pinned_low = λ m p e.
-        let same = same_Some (w / 2 ^ 24, w % 2 ^ 24) (m, p) e in (
+        let same = same_Some (w / ROOT_ROWS, w % ROOT_ROWS) (m, p) e in (
           (let version = ap (λ (pin : ℕ × ℕ). pin.0) same in omega arith),
           (let row = ap (λ (pin : ℕ × ℕ). pin.1) same in omega arith),
         );
@@ -306,10 +291,11 @@ module _ {k : Known} {number next : ℕ} {pinned : Option (ℕ × ℕ)} {fresh :
   }
 
 -- a pass that begins has pinned nothing and holds no row
-pub tied_started : (shape rows passes made number : ℕ) (loose : List Bool) → number < passes → rows ≤ 262144 → loose ≡ replicate rows false → IsTied (started_known shape rows passes made number) number 0 None [] loose [] []
+pub tied_started : (shape rows passes made number : ℕ) (loose : List Bool) → number < passes → rows ≤ MOST_ROWS → loose ≡ replicate rows false
+    → IsTied (started_known shape rows passes made number) number (number * rows / passes) None [] loose [] []
 tied_started shape rows passes made number loose some_pass few all = record {
   numbered = refl;
-  turn = omega arith;
+  turn = div-le_of_le-mul passes (mul-le-mul_right rows (omega arith));
   pinned_is = refl;
   settled = refl;
   silent = λ none. refl;
@@ -325,6 +311,7 @@ tied_started shape rows passes made number loose some_pass few all = record {
   some_pass = some_pass;
   filled = λ i b there. absurd (some-ne-none b (sym there));
   few = few;
+  in_order = none_in_order;
   pinned_low = λ n p e. absurd (none-some (n, p) e);
   written_fresh = λ i c there. absurd (some-ne-none c (sym there));
 }

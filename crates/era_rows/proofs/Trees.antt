@@ -2,6 +2,7 @@
 use Rattle.std.proofs.Common.{◌≡◌, ℕ, ◌<◌, Bool, true, false, cond, eqb, Some, List, [], ◌∷◌, refl, sym, ap, ◌∙◌, arith, lt-ltb}
 use Rattle.std.specs.Prelude.{◌&&◌, is_some, unwrap_or}
 use Rattle.std.proofs.lemmas.Bool.{and_parts, eqb-true, true≢false, ltb-true}
+use Rattle.era_core.specs.declared.sizes.TheConstants.{WIDTH}
 use Rattle.era_core.specs.Lists.{times, In, is_in, tree}
 use Rattle.era_core.specs.Words.{tree_at}
 use Rattle.era_core.specs.Versions.{Cell, look_up, known, known_links, Covers, IsClosed, Stands}
@@ -51,7 +52,7 @@ module _ (rows : ℕ) (cells : List Cell) (q : ℕ) where
   tree_by_own = sym (tree_same (known_links cells) (known_links (of_rows rows_by cells)) rows q (λ x here. known_links-of_rows rows_by cells x here))
 
   -- a tree by known words is a closed copy, where each word has a place
-  pub copy_closed : IsTree (copy_by rows cells q) → ((i : ℕ) (c : Cell) → get_elem? cells i ≡ some c → c.place < 40) → IsClosed rows (copy_by rows cells q)
+  pub copy_closed : IsTree (copy_by rows cells q) → ((i : ℕ) (c : Cell) → get_elem? cells i ≡ some c → c.place < WIDTH) → IsClosed rows (copy_by rows cells q)
   copy_closed is_tree placed = record {
     once = is_tree.once;
     within = λ i c there. (cell-of_rows rows_by cells i c there).2;

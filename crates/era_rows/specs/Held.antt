@@ -1,10 +1,12 @@
 -- What a pass may rely on between its steps, and how the lists that it keeps at run time agree with what it knows.
-use Rattle.std.specs.Prelude.{◌≡◌, ℕ, ◌+◌, ◌*◌, ◌^◌, ◌<◌, ◌≤◌, ◌⊎◌, Bool, false, ◌==◌, if◌then◌else◌, Option, Some, None, List, [], filter, map, flat_map, length, slice_index_or}
+use Rattle.std.specs.Prelude.{◌≡◌, ℕ, ◌+◌, ◌*◌, ◌<◌, ◌≤◌, ◌⊎◌, Bool, false, ◌==◌, if◌then◌else◌, Option, Some, None, List, [], filter, map, flat_map, length, slice_index_or}
+use Rattle.era_core.specs.declared.sizes.TheConstants.{ROOT_ROWS, LAST_VERSION, MOST_ROWS}
 use Rattle.era_core.specs.Lists.{times, In, is_in}
 use Rattle.era_core.specs.Views.{Batch, held}
 use Rattle.era_core.specs.Versions.{Cell}
 use Rattle.era_rows.specs.Trees.{IsTree}
 use Rattle.era_rows.specs.Known.{Known, pinned_copy}
+use Rattle.era_rows.specs.Ring.{AreInOrder}
 use mathlib.Core.Option.{some}
 use lib.ListN.{get_elem?}
 
@@ -61,8 +63,10 @@ pub record IsTied (k : Known) (number next : ℕ) (pinned : Option (ℕ × ℕ))
   -- its number is that of a pass
   pub some_pass : number < k.passes
   -- the pinned version and its root row fit into a root word
-  pub pinned_low : (n p : ℕ) → k.core.pinned ≡ Some (n, p) → (n < 2 ^ 40) × (p < 2 ^ 24)
+  pub pinned_low : (n p : ℕ) → k.core.pinned ≡ Some (n, p) → (n ≤ LAST_VERSION) × (p < ROOT_ROWS)
   -- each batch has a row
   pub filled : (i : ℕ) (b : Batch) → get_elem? k.core.retired i ≡ some b → 0 < length b.1
+  -- the retired rows stand in the order of their versions
+  pub in_order : AreInOrder retired
   -- there are no more rows than a root word can name
-  pub few : k.rows ≤ 262144
+  pub few : k.rows ≤ MOST_ROWS

@@ -1,5 +1,6 @@
 -- What a running pass knows beside the entries that it has seen, and what each step adds to it.
-use Rattle.std.specs.Prelude.{◌/◌, ◌%◌, ◌^◌, ℕ, ◌+◌, nat_lt, ◌&&◌, not, ◌==◌, if◌then◌else◌, Option, Some, None, option_and_then, List, [], ◌∷◌, ◌++◌, filter, drop, length, slice_get, unwrap_or}
+use Rattle.std.specs.Prelude.{◌/◌, ◌%◌, ℕ, ◌+◌, ◌&&◌, not, ◌==◌, Option, Some, None, option_and_then, List, [], ◌∷◌, ◌++◌, filter, drop, length, slice_get, unwrap_or}
+use Rattle.era_core.specs.declared.sizes.TheConstants.{ROOT_ROWS}
 use Rattle.era_core.specs.Lists.{is_in, tree}
 use Rattle.era_core.specs.Words.{root_word, reservation_at, owner_at}
 use Rattle.era_core.specs.Views.{View, start_view, versions_of, noting, pinning, reading, taking, publishing, unpinning, looking, freeing}
@@ -116,7 +117,7 @@ freeing_row r k = record k { core = freeing r k.core; written = of_others (r ∷
 
 -- Note found this root word
 abbrev pub noting_root : ℕ → Known → Known
-noting_root w k = record k { core = noting (w / 2 ^ 24) k.core; looks = k.looks ++ (0, w) ∷ [] }
+noting_root w k = record k { core = noting (w / ROOT_ROWS) k.core; looks = k.looks ++ (0, w) ∷ [] }
 
 -- Announce reserved version n
 abbrev pub reserving : ℕ → Known → Known
@@ -124,7 +125,7 @@ reserving n k = record k { reserves = n + 1 }
 
 -- Pin found this root word, and the pass knows these copies
 abbrev pub pinning_root : ℕ → List Copy → Known → Known
-pinning_root w copies k = record k { core = pinning (w / 2 ^ 24) (w % 2 ^ 24) k.core; copies = copies; looks = k.looks ++ (0, w) ∷ []; since = length k.looks }
+pinning_root w copies k = record k { core = pinning (w / ROOT_ROWS) (w % ROOT_ROWS) k.core; copies = copies; looks = k.looks ++ (0, w) ∷ []; since = length k.looks }
 
 -- Read found the word at the place
 abbrev pub reading_word : ℕ → ℕ → Known → Known
@@ -165,7 +166,7 @@ recording full k = record k { full = full k }
 
 -- the longer one of two lists that begin alike
 abbrev pub longer : {A : Type 0} → List A → List A → List A
-longer xs ys = if nat_lt (length xs) (length ys) then ys else xs
+longer xs ys = xs ++ drop (length xs) ys
 
 -- the first, where it is there
 abbrev pub either_full : Option Shortage → Option Shortage → Option Shortage

@@ -2,10 +2,14 @@ pub mod Trees
 pub mod Known
 pub mod Lists
 pub mod Rule
+pub mod Ring
 pub mod Held
 pub mod Plays
 pub mod Laws
 pub mod May
 pub mod Passes
 pub mod Reach
+pub mod FreshRows
+pub mod Evidence
+pub mod Memory
 pub mod FirstTree

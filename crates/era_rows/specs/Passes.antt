@@ -1,12 +1,15 @@
 -- What a running pass is, to its callers, and what its calls do.
-use Rattle.std.specs.Prelude.{◌==◌, if◌then◌else◌, ◌≡◌, ℕ, ◌+◌, ◌-◌, ◌/◌, ◌^◌, ◌<◌, ◌≤◌, ◌⊎◌, Bool, Option, Some, None, Result, Ok, Err, List, [], ◌∷◌, ◌++◌, flat_map, length}
+use Rattle.std.specs.Prelude.{◌==◌, if◌then◌else◌, ◌≡◌, ℕ, ◌+◌, ◌/◌, ◌<◌, ◌≤◌, ◌⊎◌, Bool, Option, Some, None, Result, Ok, Err, List, [], ◌∷◌, ◌++◌, flat_map, length, replicate}
 use Rattle.atomic_table.specs.declared.shared.Seat.{Seat}
+use Rattle.era_core.specs.declared.sizes.TheConstants.{WIDTH, ROOT_ROWS, LAST_VERSION}
 use Rattle.era_core.specs.Lists.{In, without}
 use Rattle.era_core.specs.Words.{root_word, reservation_at, owner_at, cell_at}
 use Rattle.era_core.specs.Views.{Batch, start_view, batch_of, reserved, lesser, clears}
 use Rattle.era_core.specs.Versions.{Copy}
 use Rattle.era_rows.specs.Known.{Known, Look, first_known, taking_row, recording, shortage, of_others, noting_root, reserving, pinned_copy, looking_at}
 use Rattle.era_rows.specs.Held.{IsAlone, IsOwn}
+use Rattle.era_rows.specs.declared.memory.TheConstants.{MEMORY_PLACES}
+use Rattle.era_rows.specs.Memory.{Memory}
 use Rattle.era_rows.specs.Plays.{IsUnused, Pins, Loses, Publishes}
 use Rattle.era_rows.specs.Rule.{HasSizes, knowing, both_knows}
 use Rattle.era_rows.specs.declared.views.Knows.{Knows}
@@ -62,7 +65,7 @@ pub record HasRead (before after : Known) : Type 0 where
   pub more : List Look
   pub last : Option ℕ
   pub now : after ≡ record before { core = record before.core { last = last }; looks = before.looks ++ more }
-  pub only : (i : ℕ) (l : Look) → get_elem? more i ≡ some l → (r p : ℕ) × In r before.core.fresh × (p < 40) × (l.0 ≡ cell_at before.passes before.rows r p)
+  pub only : (i : ℕ) (l : Look) → get_elem? more i ≡ some l → (r p : ℕ) × In r before.core.fresh × (p < WIDTH) × (l.0 ≡ cell_at before.passes before.rows r p)
 
 -- the looks of a scan that found these words in the reservations from pass j on, and the least version that they name
 abbrev pub looks_of : ℕ → ℕ → ℕ → List ℕ → List Look
@@ -131,14 +134,19 @@ module _ {L E : Type 0} {G : Ghosts L E} where
   abbrev pub work_of : Pass L E G → List ℕ
   work_of p = p.work.items
 
+  -- the words that the pass remembers at each place
+  abbrev pub memory_of : Pass L E G → Memory
+  memory_of p = p.memory
+
   -- the pass belongs to these rows
   abbrev pub IsPassOf : Rows L E → Pass L E G → Type 0
   IsPassOf r p = IsSeatOf r p.seat
 
-  -- it is the pass that it was, with the same work list
+  -- it is the pass that it was, with the same work list, and remembers what it did
   pub record IsSamePass (p q : Pass L E G) : Type 0 where
     pub same_number : q.number ≡ p.number
     pub same_work : work_of q ≡ work_of p
+    pub same_memory : memory_of q ≡ memory_of p
 
   -- and it has the entries and the marks that it had
   pub record HasSame (p q : Pass L E G) : Type 0 where
@@ -151,16 +159,16 @@ module _ {E : Type 0} (caller stamp : E → ℕ) (accepted : ℕ → E → Bool)
   -- the pass found a root word, reserved its version, and pinned the version with this root row, which it then found
   abbrev pub PinsVersion : ℕ → ℕ → Knows E → Knows E → Type 0
   PinsVersion n p before after =
-      (w : ℕ) × Pins caller stamp accepted lawful stands right (root_word n p) (knowing before.seen before.lists (reserving (w / 2 ^ 24) (noting_root w before.view))) after
+      (w : ℕ) × Pins caller stamp accepted lawful stands right (root_word n p) (knowing before.seen before.lists (reserving (w / ROOT_ROWS) (noting_root w before.view))) after
 
   -- a publication over version n, with root row p, of the tree at row q with entry e, by its answer: the pass has read words
   -- of its fresh rows, and then found the root. Nothing was done exactly where version n is the last of all
   abbrev pub Publication : ℕ → ℕ → ℕ → E → Knows E → Knows E → Result ℕ PublishRefusal → Type 0
   Publication n p q e before after (Ok v) =
-      (n < 2 ^ 40 - 1) × (v ≡ n + 1) × ((mid : Known) × HasRead before.view mid × Publishes caller stamp accepted lawful stands right n p q e (knowing before.seen before.lists mid) after)
+      (n < LAST_VERSION) × (v ≡ n + 1) × ((mid : Known) × HasRead before.view mid × Publishes caller stamp accepted lawful stands right n p q e (knowing before.seen before.lists mid) after)
   Publication n p q e before after (Err (Beaten v)) =
-      (n < 2 ^ 40 - 1) × ((w : ℕ) × (v ≡ w / 2 ^ 24) × ((mid : Known) × HasRead before.view mid × Loses caller stamp accepted lawful stands right w (knowing before.seen before.lists mid) after))
-  Publication n p q e before after (Err Spent) = (n ≡ 2 ^ 40 - 1) × (after ≡ before)
+      (n < LAST_VERSION) × ((w : ℕ) × (v ≡ w / ROOT_ROWS) × ((mid : Known) × HasRead before.view mid × Loses caller stamp accepted lawful stands right w (knowing before.seen before.lists mid) after))
+  Publication n p q e before after (Err Spent) = (n ≡ LAST_VERSION) × (after ≡ before)
 
 -- what a pass knows as it begins, where so many passes have begun
 abbrev pub started_known : ℕ → ℕ → ℕ → ℕ → ℕ → Known
@@ -168,7 +176,7 @@ started_known shape rows passes made number =
     record (first_known shape rows passes) { core = start_view number; made = if number == 0 then Some made else None }
 
 module _ {L E : Type 0} {G : Ghosts L E} where
-  -- pass with this number, as the start leaves it: it has no row, no pin, no entry and no work
+  -- pass with this number, as the start leaves it: it has no row, no pin, no entry and no work, and remembers nothing
   pub record IsStarted (r : Rows L E) (number : ℕ) (p : Pass L E G) : Type 0 where
     pub is_pass : IsPassOf r p
     pub number_is : p.number ≡ number
@@ -177,6 +185,7 @@ module _ {L E : Type 0} {G : Ghosts L E} where
     pub no_entry : lists_of p ≡ (number, []) ∷ []
     pub no_marks : marked_of p ≡ []
     pub no_work : work_of p ≡ []
+    pub no_memory : memory_of p ≡ replicate MEMORY_PLACES None
 
   -- The pass has taken over what another had, and then looked at the first reservation
   pub record Joins (p other q : Pass L E G) : Type 0 where

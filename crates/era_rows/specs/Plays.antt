@@ -1,6 +1,7 @@
 -- What each step tells the pass that makes it: what the pass knows afterwards.
-use Rattle.std.specs.Prelude.{◌≡◌, ℕ, ◌+◌, ◌/◌, ◌%◌, ◌^◌, ◌<◌, ◌≤◌, Bool, Option, Some, List, [], ◌∷◌, ◌++◌, take, length}
+use Rattle.std.specs.Prelude.{◌≡◌, ℕ, ◌+◌, ◌/◌, ◌%◌, ◌<◌, ◌≤◌, Bool, Option, Some, List, [], ◌∷◌, ◌++◌, take, length}
 use Rattle.atomic_table.specs.Table.{Step, Me}
+use Rattle.era_core.specs.declared.sizes.TheConstants.{WIDTH, ROOT_ROWS}
 use Rattle.era_core.specs.Lists.{times, In}
 use Rattle.era_core.specs.Words.{root_word, reservation_at, owner_at, cell_at}
 use Rattle.era_core.specs.Views.{versions_of, held}
@@ -41,7 +42,7 @@ module _ {S E : Type 0} where
 
   -- Write into row r at place p
   abbrev pub wrote : Step S → Me S (Knows E) → ℕ → Me S (Knows E) → Type 0
-  wrote st m word m' = (r p : ℕ) → p < 40 → st.word ≡ cell_at m.0.view.passes m.0.view.rows r p → IsNow m m' (writing r p word m.0.view)
+  wrote st m word m' = (r p : ℕ) → p < WIDTH → st.word ≡ cell_at m.0.view.passes m.0.view.rows r p → IsNow m m' (writing r p word m.0.view)
 
   -- Free of row r
   abbrev pub freed : Step S → Me S (Knows E) → ℕ → Me S (Knows E) → Type 0
@@ -58,8 +59,8 @@ module _ {S E : Type 0} where
   -- Read of row r at place p: where the pass knows the word, of the version that it has pinned or as it wrote it, it is found
   abbrev pub has_read : Step S → Me S (Knows E) → ℕ → Me S (Knows E) → Type 0
   has_read st m found m' = IsNow m m' (reading_word st.word found m.0.view)
-      × ((r p w : ℕ) → p < 40 → st.word ≡ cell_at m.0.view.passes m.0.view.rows r p → look_up (known_words m.0.view) r p ≡ Some w → found ≡ w)
-      × ((r p w : ℕ) → p < 40 → st.word ≡ cell_at m.0.view.passes m.0.view.rows r p → look_up (pinned_copy m.0.view).cells r p ≡ Some w → found ≡ w)
+      × ((r p w : ℕ) → p < WIDTH → st.word ≡ cell_at m.0.view.passes m.0.view.rows r p → look_up (known_words m.0.view) r p ≡ Some w → found ≡ w)
+      × ((r p w : ℕ) → p < WIDTH → st.word ≡ cell_at m.0.view.passes m.0.view.rows r p → look_up (pinned_copy m.0.view).cells r p ≡ Some w → found ≡ w)
 
 module _ {E : Type 0} (caller stamp : E → ℕ) (accepted : ℕ → E → Bool) (lawful : ℕ → Copy → Type 0) (stands : ℕ → Copy → List E → Type 0) (right : ℕ → E → List E → Type 0) where
   -- The pass has seen accepted entries, each right at those before it, and each list that it holds is that of its caller up to
@@ -83,10 +84,10 @@ module _ {E : Type 0} (caller stamp : E → ℕ) (accepted : ℕ → E → Bool)
   -- reservation would block it
   pub record Pins (w : ℕ) (before after : Knows E) : Type 0 where
     pub view_is : after.view ≡ pinning_root w after.view.copies before.view
-    pub learns : Learns (w / 2 ^ 24) before after
-    pub there : get_elem? after.view.copies (w / 2 ^ 24) ≡ some (pinned_copy after.view)
-    pub rooted : (pinned_copy after.view).root ≡ w % 2 ^ 24
-    pub root_here : In (w % 2 ^ 24) (pinned_copy after.view).rows
+    pub learns : Learns (w / ROOT_ROWS) before after
+    pub there : get_elem? after.view.copies (w / ROOT_ROWS) ≡ some (pinned_copy after.view)
+    pub rooted : (pinned_copy after.view).root ≡ w % ROOT_ROWS
+    pub root_here : In (w % ROOT_ROWS) (pinned_copy after.view).rows
     pub closed : IsClosed after.view.rows (pinned_copy after.view)
     pub tree : HoldsTree after.view
     pub older : (b : ℕ) → In b (versions_of after.view.core.retired) → b + 1 < after.view.reserves
@@ -94,13 +95,15 @@ module _ {E : Type 0} (caller stamp : E → ℕ) (accepted : ℕ → E → Bool)
   -- Publish found this other root word, of a later version than the pinned one
   pub record Loses (w : ℕ) (before after : Knows E) : Type 0 where
     pub view_is : after.view ≡ losing w after.view.copies before.view
-    pub learns : Learns (w / 2 ^ 24) before after
-    pub later : (n p : ℕ) → before.view.core.pinned ≡ Some (n, p) → n < w / 2 ^ 24
+    pub learns : Learns (w / ROOT_ROWS) before after
+    pub later : (n p : ℕ) → before.view.core.pinned ≡ Some (n, p) → n < w / ROOT_ROWS
 
   -- Publish found the pinned root word
   pub record Publishes (n p q : ℕ) (e : E) (before after : Knows E) : Type 0 where
     pub now : after ≡ having_published caller n p q e before
     pub seen_all : length before.seen ≡ n
+    -- each batch that waits is of an earlier version
+    pub older : (b : ℕ) → In b (versions_of before.view.core.retired) → b < n
     pub holds : HoldsRows after.view
     pub consistent : IsConsistent after
 
@@ -119,5 +122,5 @@ module _ {E : Type 0} (caller stamp : E → ℕ) (accepted : ℕ → E → Bool)
     has_left entry st m word m' = (m'.0 ≡ having_left caller entry m.0) × (m'.1 ≡ m.1) × IsConsistent m'.0
 
     abbrev pub published : Option E → Step S → Me S (Knows E) → ℕ → Me S (Knows E) → Type 0
-    published entry st m found m' = (n p q : ℕ) (e : E) → entry ≡ Some e → m.0.view.core.pinned ≡ Some (n, p) → st.second ≡ root_word (n + 1) q → q < 2 ^ 24
+    published entry st m found m' = (n p q : ℕ) (e : E) → entry ≡ Some e → m.0.view.core.pinned ≡ Some (n, p) → st.second ≡ root_word (n + 1) q → q < ROOT_ROWS
         → (found ≡ root_word n p → Publishes n p q e m.0 m'.0) × (¬ (found ≡ root_word n p) → Loses found m.0 m'.0) × (m'.1 ≡ m.1)

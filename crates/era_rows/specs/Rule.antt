@@ -1,6 +1,7 @@
 -- The running rule: what holds between any two steps, of the words and of what the passes know.
 -- A pass that was joined into another has no number and holds no row, and nothing more is said of it.
 use Rattle.std.specs.Prelude.{◌≡◌, ℕ, ◌+◌, ◌-◌, ◌<◌, ◌≤◌, Bool, nat_lt, ◌==◌, if◌then◌else◌, Option, Some, None, List, [], ◌∷◌, ◌++◌, map, take, length}
+use Rattle.era_core.specs.declared.sizes.TheConstants.{WIDTH}
 use Rattle.era_core.specs.Lists.{times, In, total}
 use Rattle.era_core.specs.Words.{version, reservation}
 use Rattle.era_core.specs.Views.{View, held}
@@ -53,7 +54,7 @@ pub record HasSizes (key : Sizes) (shape rows passes : ℕ) : Type 0 where
 pub record AreWritten (key : Sizes) (ws : List ℕ) (fresh : List ℕ) (cells : List Cell) : Type 0 where
   pub stand : Stands key.passes key.rows ws cells
   pub in_fresh : (i : ℕ) (c : Cell) → get_elem? cells i ≡ some c → In c.row fresh
-  pub placed : (i : ℕ) (c : Cell) → get_elem? cells i ≡ some c → c.place < 40
+  pub placed : (i : ℕ) (c : Cell) → get_elem? cells i ≡ some c → c.place < WIDTH
 
 module _ {E : Type 0} (caller stamp : E → ℕ) (accepted : ℕ → E → Bool) (lawful : ℕ → Copy → Type 0) (stands : ℕ → Copy → List E → Type 0)
     (right : ℕ → E → List E → Type 0) (key : Sizes) where

@@ -1,5 +1,6 @@
 -- Trees of rows, as a copy knows them.
 use Rattle.std.specs.Prelude.{ℕ, zero, suc, ◌+◌, ◌/◌, ◌≤◌, List, [], ◌∷◌}
+use Rattle.era_core.specs.declared.sizes.TheConstants.{WIDTH, MOST_LINKS, KINDS}
 use Rattle.era_core.specs.Lists.{times, In}
 use Rattle.era_core.specs.Versions.{Cell, Copy, known, known_links, Covers}
 
@@ -10,7 +11,7 @@ blank_cells place (suc n) = record { row = 0; place = place; word = 0 } ∷ blan
 
 -- the copy of version 0: row 0 alone, with all its words 0
 abbrev pub first_copy : Copy
-first_copy = record { root = 0; rows = 0 ∷ []; cells = blank_cells 0 40 }
+first_copy = record { root = 0; rows = 0 ∷ []; cells = blank_cells 0 WIDTH }
 
 -- a copy without rows
 abbrev pub no_copy : Copy
@@ -20,6 +21,6 @@ no_copy = record { root = 0; rows = []; cells = [] }
 -- Word 0 of each row and the links that it counts are known, and each link is a row of the tree
 pub record IsTree (c : Copy) : Type 0 where
   pub once : (r : ℕ) → times r c.rows ≤ 1
-  pub few : (r : ℕ) → In r c.rows → known c.cells r 0 / 4 ≤ 39
+  pub few : (r : ℕ) → In r c.rows → known c.cells r 0 / KINDS ≤ MOST_LINKS
   pub covered : (r : ℕ) → In r c.rows → Covers c.cells r
   pub linked : (r x : ℕ) → In r c.rows → In x (known_links c.cells r) → In x c.rows

@@ -7,13 +7,14 @@ use crate::law::Law;
 use crate::pass::Pass;
 use crate::plays::{Absorb, Look};
 use crate::publishes::loosen;
+use crate::ring::merge;
 use crate::rows::Rows;
 
 impl<L: Law> Rows<L> {
     /// The pass takes over the fresh rows, the retired rows and the lists of another, whose fresh rows come after its own, and
     /// what the other recorded where no row was free, if it has recorded nothing itself. It keeps the longer one of what both
-    /// have seen. It then looks at the first reservation, which tells that all its rows are different. The other's marks and
-    /// looks are gone.
+    /// have seen. It then looks at the first reservation, which tells that all its rows are different. What it remembers
+    /// stays; what the other remembers, its marks and its looks are gone.
     pub fn join(&self, pass: &mut Pass<L>, other: Pass<L>)
         requires pass { IsPassOf self.now pass.old }
         requires other { IsPassOf self.now other }
@@ -36,12 +37,12 @@ impl<L: Law> Rows<L> {
         self.table.shared.load::<Look<L>>(&mut pass.seat, place);
         append(&mut pass.fresh, &fresh);
         loosen(&mut pass.loose, &fresh);
-        append(&mut pass.retired, &retired);
+        merge(&mut pass.retired, retired);
     }
 }
 
 // Puts these behind those that are there.
-fn append<T: Copy>(items: &mut Vec<T>, more: &Vec<T>)
+fn append(items: &mut Vec<u32>, more: &Vec<u32>)
     requires { vec_len items.old + vec_len more.now ≤ vec_capacity items.old }
     ensures items { items.new.items ≡ items.old.items ++ more.now.items }
     ensures capacity { vec_capacity items.new ≡ vec_capacity items.old }

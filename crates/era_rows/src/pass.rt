@@ -1,10 +1,15 @@
 //! The seat of one thread.
 ghost use Rattle.std.specs.Prelude.{◌≡◌, [], vec_capacity};
+ghost use Rattle.std.specs.VecDeque.{deque_capacity};
+ghost use Rattle.era_rows.specs.Ring.{pairs_in};
 ghost use Rattle.era_rows.specs.Held.{IsTied, HasRoom};
+ghost use Rattle.era_rows.specs.Memory.{Recalls};
 
 use crate::law::Law;
+use crate::memory::{MEMORY_PLACES, MEMORY_WORDS};
 use crate::views::Knows;
 use atomic_table::Seat;
+use std::collections::VecDeque;
 
 /// One thread's seat at the rows, with the rows that it took, those that it retired, and a work list for its caller.
 #[derive(Drop)]
@@ -20,10 +25,13 @@ pub struct Pass<L: Law> {
     // Room for the fresh rows of a tree.
     pub(crate) reached: Vec<u32>,
     pub(crate) marked: Vec<u32>,
-    // Each retired row, with the version at which it was retired.
-    pub(crate) retired: Vec<(u64, u32)>,
+    // Each retired row in one word with the version at which it was retired, in the order of these versions.
+    pub(crate) retired: VecDeque<u64>,
     pub(crate) work: Vec<u64>,
-    ghost tied: { IsTied seat.me.0.view number next pinned fresh.items loose.items marked.items retired.items },
+    // The words that it remembers for its caller, at each place.
+    pub(crate) memory: [Option<[u64; MEMORY_WORDS]>; MEMORY_PLACES],
+    ghost tied: { IsTied seat.me.0.view number next pinned fresh.items loose.items marked.items (pairs_in retired.items) },
+    ghost recalls: { Recalls L.says seat.me.0.view.shape seat.me.0.seen memory },
     ghost bare: { seat.me.1 ≡ [] },
-    ghost roomy: { HasRoom seat.me.0.view.rows (vec_capacity fresh) (vec_capacity reached) (vec_capacity marked) (vec_capacity retired) (vec_capacity work) },
+    ghost roomy: { HasRoom seat.me.0.view.rows (vec_capacity fresh) (vec_capacity reached) (vec_capacity marked) (deque_capacity retired) (vec_capacity work) },
 }

@@ -1,5 +1,5 @@
 //! Pinning a version and leaving it.
-ghost use Rattle.std.specs.Prelude.{◌≡◌, ◌^◌, ◌<◌, Some, None, []};
+ghost use Rattle.std.specs.Prelude.{◌≡◌, ◌<◌, ◌≤◌, Some, None, []};
 ghost use Rattle.era_rows.specs.Plays.{IsConsistent, having_left};
 ghost use Rattle.era_rows.specs.May.{MayLeave};
 ghost use Rattle.era_rows.specs.Passes.{knows_of, known_of, marked_of, IsPassOf, IsSamePass, PinsVersion};
@@ -8,10 +8,8 @@ use crate::law::{Law, Names};
 use crate::pass::Pass;
 use crate::plays::{Announce, Note, Pin, Said, Unpin};
 use crate::rows::Rows;
+use era_core::{LAST_VERSION, ROOT_ROWS};
 use std::marker::Brand;
-
-// A root word is a version times this, and a row.
-pub(crate) const ROOT: u64 = 16_777_216;
 
 impl<L: Law> Rows<L> {
     /// Pins the current version: its number and its root row. The pass has then seen all accepted entries up to it, and the
@@ -22,17 +20,17 @@ impl<L: Law> Rows<L> {
         ensures pass { IsPassOf self.now pass.new }
         ensures same { IsSamePass pass.old pass.new }
         ensures marks { marked_of pass.new ≡ marked_of pass.old }
-        ensures small { (result.0 < 2 ^ 40) × (result.1 < 2 ^ 24) }
+        ensures small { (result.0 ≤ LAST_VERSION) × (result.1 < ROOT_ROWS) }
         ensures current { (known_of pass.new).core.pinned ≡ Some (result.0, result.1) }
         ensures pinned { PinsVersion L.caller L.stamp L.accepted L.lawful L.stands L.right result.0 result.1 (knows_of pass.old) (knows_of pass.new) }
     {
-        let noted = self.table.shared.load::<Note>(&mut pass.seat, 0) / ROOT;
+        let noted = self.table.shared.load::<Note>(&mut pass.seat, 0) / ROOT_ROWS;
         let place = self.reservation_place(pass.number);
         self.table
             .shared
             .store::<Announce>(&mut pass.seat, place, noted + 1);
         let root = self.table.shared.load::<Pin<L>>(&mut pass.seat, 0);
-        let pin = (root / ROOT, (root % ROOT) as u32);
+        let pin = (root / ROOT_ROWS, (root % ROOT_ROWS) as u32);
         pass.pinned = Some(pin);
         pin
     }

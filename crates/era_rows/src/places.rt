@@ -4,6 +4,7 @@ ghost use Rattle.era_core.specs.Words.{reservation_at, owner_at, cell_at};
 
 use crate::law::Law;
 use crate::rows::Rows;
+use era_core::WIDTH;
 
 impl<L: Law> Rows<L> {
     // The place of the reservation of a pass.
@@ -23,9 +24,12 @@ impl<L: Law> Rows<L> {
 
     // The place of a word of a row.
     pub(crate) fn cell_place(&self, row: u32, place: u32) -> usize
-        requires { (row < self.now.rows) × (place < 40) }
+        requires { (row < self.now.rows) × (place < WIDTH) }
         ensures { result ≡ cell_at self.now.passes self.now.rows row place }
     {
-        1 + self.passes as usize + self.rows as usize + 40 * row as usize + place as usize
+        1 + self.passes as usize
+            + self.rows as usize
+            + WIDTH as usize * row as usize
+            + place as usize
     }
 }

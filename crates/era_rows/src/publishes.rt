@@ -9,16 +9,14 @@ ghost use Rattle.era_rows.specs.Passes.{knows_of, known_of, marked_of, IsSeatOf,
 
 use crate::law::{Law, Names};
 use crate::pass::Pass;
-use crate::pins::ROOT;
 use crate::plays::{Publish, Said};
 use crate::refusal::PublishRefusal;
+use crate::ring::retire;
 use crate::rows::Rows;
 use crate::views::Knows;
 use atomic_table::Seat;
+use era_core::{LAST_VERSION, ROOT_ROWS, packed};
 use std::marker::Brand;
-
-// The last version that a root word has room for.
-const LAST: u64 = 1_099_511_627_775;
 
 impl<L: Law> Rows<L> {
     /// Marks a row of the pinned tree, which the next publication retires.
@@ -46,7 +44,7 @@ impl<L: Law> Rows<L> {
         requires seat { IsSeatOf self.now seat.old }
         requires root { root < self.now.rows }
         requires may { (e : L.Entry) × (N.entry names.now ≡ Some e) × MayPublish L.caller L.stamp L.accepted L.lawful L.stands L.right pin.0 pin.1 root e seat.old.me.0 }
-        requires last { (pin.0 < 2 ^ 40 - 1) × (pin.1 < 2 ^ 24) }
+        requires last { (pin.0 < LAST_VERSION) × (pin.1 < ROOT_ROWS) }
         ensures seat { IsSeatOf self.now seat.new }
         ensures slots { seat.new.me.1 ≡ seat.old.me.1 }
         ensures won { (e : L.Entry) → N.entry names.now ≡ Some e → result ≡ root_word pin.0 pin.1 → Publishes L.caller L.stamp L.accepted L.lawful L.stands L.right pin.0 pin.1 root e seat.old.me.0 seat.new.me.0 }
@@ -79,7 +77,7 @@ impl<L: Law> Rows<L> {
         let Some(pin) = pass.pinned else {
             unreachable!()
         };
-        if pin.0 == LAST {
+        if pin.0 == LAST_VERSION {
             pass.marked.clear();
             return Err(PublishRefusal::Spent);
         }
@@ -88,20 +86,12 @@ impl<L: Law> Rows<L> {
         if found != packed(pin.0, pin.1) {
             loosen(&mut pass.loose, &pass.reached);
             pass.marked.clear();
-            return Err(PublishRefusal::Beaten(found / ROOT));
+            return Err(PublishRefusal::Beaten(found / ROOT_ROWS));
         }
         keep_loose(&mut pass.fresh, &pass.loose);
         retire(&mut pass.retired, &mut pass.marked, pin.0);
         Ok(pin.0 + 1)
     }
-}
-
-// The root word of a version and its root row.
-fn packed(version: u64, row: u32) -> u64
-    requires { (version < 2 ^ 40) × (row < 2 ^ 24) }
-    ensures { result ≡ root_word version row }
-{
-    version * ROOT + u64::from(row)
 }
 
 // These rows are loose.
@@ -127,18 +117,4 @@ fn keep_loose(rows: &mut Vec<u32>, loose: &Vec<bool>)
     ensures capacity { vec_capacity rows.new ≡ vec_capacity rows.old }
 {
     rows.retain(|row| is_loose(loose, *row));
-}
-
-// Retires the marked rows at a version.
-fn retire(retired: &mut Vec<(u64, u32)>, marked: &mut Vec<u32>, version: u64)
-    requires room { length retired.old.items + length marked.old.items ≤ vec_capacity retired.old }
-    ensures retired { retired.new.items ≡ retired.old.items ++ map (λ x. (version, x)) marked.old.items }
-    ensures marked { marked.new.items ≡ [] }
-    ensures retired_capacity { vec_capacity retired.new ≡ vec_capacity retired.old }
-    ensures marked_capacity { vec_capacity marked.new ≡ vec_capacity marked.old }
-{
-    for i in 0..marked.len() {
-        retired.push_reserved((version, marked[i]));
-    }
-    marked.clear();
 }

@@ -15,6 +15,7 @@ use crate::law::Law;
 use crate::rows::Rows;
 use crate::views::Knows;
 use atomic_table::Seat;
+use era_core::{KINDS, MOST_LINKS};
 
 impl<L: Law> Rows<L> {
     // A row that is loose is reached, and is loose no more.
@@ -55,7 +56,7 @@ impl<L: Law> Rows<L> {
         ensures links { AddsLinks (known_links (known_words seat.old.me.0.view) row) seat.old.me.0.view.core.fresh reached.old.items reached.new.items }
         ensures capacity { vec_capacity reached.new ≡ vec_capacity reached.old }
     {
-        let count = (self.read_by(seat, row, 0) / 4).min(39) as u32;
+        let count = (self.read_by(seat, row, 0) / KINDS).min(MOST_LINKS as u64) as u32;
         for place in 1..count + 1 {
             let link = self.read_by(seat, row, place);
             Rows::<L>::reach_row(loose, reached, link as u32);

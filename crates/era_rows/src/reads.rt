@@ -13,6 +13,7 @@ use crate::plays::{Read, Write};
 use crate::rows::Rows;
 use crate::views::Knows;
 use atomic_table::Seat;
+use era_core::WIDTH;
 
 impl<L: Law> Rows<L> {
     // Reads a word by a seat.
@@ -20,7 +21,7 @@ impl<L: Law> Rows<L> {
         requires seat { IsSeatOf self.now seat.old }
         requires number { (j : ℕ) × (seat.old.me.0.view.core.number ≡ Some j) }
         requires row { IsReadable row seat.old.me.0.view }
-        requires places { (row < self.now.rows) × (place < 40) }
+        requires places { (row < self.now.rows) × (place < WIDTH) }
         ensures seat { IsSeatOf self.now seat.new }
         ensures now { seat.new.me ≡ (knowing seat.old.me.0.seen seat.old.me.0.lists (reading_word (cell_at self.now.passes self.now.rows row place) result seat.old.me.0.view), seat.old.me.1) }
         ensures word { (w : ℕ) → look_up (known_words seat.old.me.0.view) row place ≡ Some w → result ≡ w }
@@ -35,7 +36,7 @@ impl<L: Law> Rows<L> {
     pub fn read(&self, pass: &mut Pass<L>, row: u32, place: u32) -> u64
         requires pass { IsPassOf self.now pass.old }
         requires row { IsReadable row (known_of pass.old) }
-        requires place { place < 40 }
+        requires place { place < WIDTH }
         ensures pass { IsPassOf self.now pass.new }
         ensures same { HasSame pass.old pass.new }
         ensures known { known_of pass.new ≡ reading_word (cell_at self.now.passes self.now.rows row place) result (known_of pass.old) }
@@ -49,7 +50,7 @@ impl<L: Law> Rows<L> {
     pub fn write(&self, pass: &mut Pass<L>, row: u32, place: u32, word: u64)
         requires pass { IsPassOf self.now pass.old }
         requires fresh { In row (known_of pass.old).core.fresh }
-        requires place { place < 40 }
+        requires place { place < WIDTH }
         ensures pass { IsPassOf self.now pass.new }
         ensures same { HasSame pass.old pass.new }
         ensures written { known_of pass.new ≡ writing row place word (known_of pass.old) }

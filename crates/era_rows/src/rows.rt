@@ -1,6 +1,8 @@
 //! The rows.
 ghost use Rattle.std.specs.Prelude.{◌≡◌, ◌≤◌};
 ghost use Rattle.era_core.specs.Words.{words_len};
+ghost use Rattle.era_core.specs.declared.sizes.TheConstants.{MOST_ROWS, MOST_PASSES};
+ghost use Rattle.era_rows.specs.declared.sizes.TheConstants.{LEAST_ROWS};
 
 use crate::law::Law;
 use crate::plays::Keeping;
@@ -9,7 +11,7 @@ use crate::views::Knows;
 use atomic_table::Table;
 use std::alloc::Global;
 
-/// Rows of 40 words that the threads of its passes share.
+/// Rows of [`WIDTH`](era_core::WIDTH) words that the threads of its passes share.
 #[derive(Drop)]
 pub struct Rows<L: Law> {
     pub(crate) table: Table<(), Knows<L::Entry>, Sizes, Keeping<L>, Global>,
@@ -18,8 +20,8 @@ pub struct Rows<L: Law> {
     pub(crate) passes: u32,
     ghost sized: { table.shared.key ≡ record { shape = shape; rows = rows; passes = passes } },
     ghost long: { table.shared.table_id.words ≡ words_len passes rows },
-    ghost some_rows: { 64 ≤ rows },
-    ghost few_rows: { rows ≤ 262144 },
+    ghost some_rows: { LEAST_ROWS ≤ rows },
+    ghost few_rows: { rows ≤ MOST_ROWS },
     ghost some_passes: { 1 ≤ passes },
-    ghost few_passes: { passes ≤ 64 },
+    ghost few_passes: { passes ≤ MOST_PASSES },
 }

@@ -1,5 +1,8 @@
 //! What the rows keep from their start.
 
+/// The least number of rows.
+pub const LEAST_ROWS: u32 = 64;
+
 /// The shape, and how many rows and passes there are.
 #[derive(Drop)]
 pub struct Sizes {

@@ -1,32 +1,21 @@
 //! The start: the words, and a seat for each pass.
 ghost use Rattle.std.specs.Prelude.{◌≡◌, ℕ, ◌+◌, ◌<◌, ◌≤◌, IfOk, [], ◌∷◌, vec_len};
-ghost use Rattle.era_core.specs.Words.{start_words};
 ghost use Rattle.era_rows.specs.Rule.{knowing};
 ghost use Rattle.era_rows.specs.Passes.{IsStarted, started_known};
 ghost use mathlib.Core.Option.{some};
 ghost use lib.ListN.{get_elem?};
 
 use crate::law::Law;
+use crate::memory::MEMORY_PLACES;
 use crate::pass::Pass;
 use crate::plays::Begin;
 use crate::rows::Rows;
-use crate::sizes::Sizes;
+use crate::sizes::{LEAST_ROWS, Sizes};
 use crate::views::Knows;
 use atomic_table::{Seat, Table};
+use era_core::{MOST_PASSES, MOST_ROWS, first_words};
 use std::alloc::{AllocError, Global};
-
-// The words of the start: row 0 has an owner, and all else is 0.
-fn first_words(alloc: Global, rows: u32, passes: u32) -> Result<Vec<u64>, AllocError>
-    requires rows { (1 ≤ rows) × (rows ≤ 262144) }
-    requires passes { passes ≤ 64 }
-    ensures { IfOk result (λ words. words.items ≡ start_words passes rows) }
-{
-    let first = 1 + passes as usize;
-    let count = first + rows as usize + 40 * rows as usize;
-    let mut words = Vec::from_elem(alloc, 0u64, count)?;
-    words[first] = 1;
-    Ok(words)
-}
+use std::collections::VecDeque;
 
 impl<L: Law> Rows<L> {
     // The rows, with the seat of the first pass.
@@ -36,8 +25,8 @@ impl<L: Law> Rows<L> {
         rows: u32,
         passes: u32,
     ) -> Result<(Rows<L>, Seat<(), Knows<L::Entry>>), AllocError>
-        requires rows { (64 ≤ rows) × (rows ≤ 262144) }
-        requires passes { (1 ≤ passes) × (passes ≤ 64) }
+        requires rows { (LEAST_ROWS ≤ rows) × (rows ≤ MOST_ROWS) }
+        requires passes { (1 ≤ passes) × (passes ≤ MOST_PASSES) }
         ensures rows { IfOk result (λ t. (t.0.shape ≡ shape) × (t.0.rows ≡ rows) × (t.0.passes ≡ passes)) }
         ensures seat { IfOk result (λ t. (t.1.table_id ≡ t.0.table.shared.table_id) × (t.1.me ≡ (knowing [] ((0, []) ∷ []) (started_known shape rows passes 1 0), []))) }
     {
@@ -73,14 +62,15 @@ impl<L: Law> Rows<L> {
         Ok(Pass {
             seat,
             number,
-            next: 0,
+            next: number * self.rows / self.passes,
             pinned: None,
             fresh: Vec::with_capacity(alloc, rows)?,
             loose: Vec::from_elem(alloc, false, rows)?,
             reached: Vec::with_capacity(alloc, rows)?,
             marked: Vec::with_capacity(alloc, rows)?,
-            retired: Vec::with_capacity(alloc, rows)?,
+            retired: VecDeque::with_capacity(alloc, rows)?,
             work: Vec::with_capacity(alloc, 2 * rows)?,
+            memory: [None; MEMORY_PLACES],
         })
     }
 
@@ -106,16 +96,16 @@ impl<L: Law> Rows<L> {
     }
 
     /// So many rows, with all words 0, and a pass for each thread; pass k is the k-th. Row 0 is version 0, and all other rows
-    /// are free. The shape is a number that the law reads. All that a pass needs later is reserved here. An error means that
-    /// memory ran out.
+    /// are free. The shape is a number that the law reads. All that a pass needs later is reserved here, 37 bytes for each row
+    /// besides its seat. The first search of pass k begins at row k * rows / passes. An error means that memory ran out.
     pub fn start(
         alloc: Global,
         shape: u64,
         rows: u32,
         passes: u32,
     ) -> Result<(Rows<L>, Vec<Pass<L>>), AllocError>
-        requires rows { (64 ≤ rows) × (rows ≤ 262144) }
-        requires passes { (1 ≤ passes) × (passes ≤ 64) }
+        requires rows { (LEAST_ROWS ≤ rows) × (rows ≤ MOST_ROWS) }
+        requires passes { (1 ≤ passes) × (passes ≤ MOST_PASSES) }
         ensures sizes { IfOk result (λ t. (t.0.shape ≡ shape) × (t.0.rows ≡ rows) × (t.0.passes ≡ passes)) }
         ensures count { IfOk result (λ t. vec_len t.1 ≡ passes) }
         ensures passes { IfOk result (λ t. (i : ℕ) (p : _) → get_elem? t.1.items i ≡ some p → IsStarted t.0 i p) }

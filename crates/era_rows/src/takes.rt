@@ -1,6 +1,6 @@
 //! Taking free rows and giving them back.
 ghost use Rattle.std.specs.Prelude.{◌≡◌, ℕ, ◌<◌, ◌≤◌, IsTrue, Some, None, false, [], ◌∷◌, vec_capacity};
-ghost use Rattle.era_core.specs.Lists.{In, without};
+ghost use Rattle.era_core.specs.Lists.{times, In, without};
 ghost use Rattle.era_core.specs.Words.{owner_at};
 ghost use Rattle.era_rows.specs.Known.{finding, taking_row, recording};
 ghost use Rattle.era_rows.specs.Held.{IsAlone, IsOwn};
@@ -11,6 +11,7 @@ use crate::law::Law;
 use crate::pass::Pass;
 use crate::plays::{Ends, Free, Goes, Missing, Take};
 use crate::rows::Rows;
+use era_core::remove_row;
 
 impl<L: Law> Rows<L> {
     // Takes the row, if it has no owner, and else records what M says.
@@ -69,7 +70,8 @@ impl<L: Law> Rows<L> {
     }
 
     /// Takes a free row, which is in no pinned tree: see [`free_rows_are_unused`](crate::free_rows_are_unused). The search goes
-    /// on from the row after the one that was taken last. The answer is None only where this call found an owner in each row.
+    /// on from the row after the one that was taken last, or from a row that was freed since then. The answer is None only where
+    /// this call found an owner in each row.
     pub fn take(&self, pass: &mut Pass<L>) -> Option<u32>
         requires { IsPassOf self.now pass.old }
         ensures pass { IsPassOf self.now pass.new }
@@ -122,7 +124,8 @@ impl<L: Law> Rows<L> {
         Some(row)
     }
 
-    /// Gives a fresh row of the pass back.
+    /// Gives a fresh row of the pass back, in a time that does not grow with its fresh rows if it is the one that was taken last.
+    /// The next search begins at that row.
     pub fn give_back(&self, pass: &mut Pass<L>, row: u32)
         requires pass { IsPassOf self.now pass.old }
         requires fresh { In row (known_of pass.old).core.fresh }
@@ -132,15 +135,22 @@ impl<L: Law> Rows<L> {
     {
         let at = self.owner_place(row);
         self.table.shared.store::<Free>(&mut pass.seat, at, 0);
-        remove_row(&mut pass.fresh, row);
+        drop_row(&mut pass.fresh, row);
         pass.loose[row as usize] = false;
+        pass.next = row;
     }
 }
 
-// Drops a row from these.
-fn remove_row(rows: &mut Vec<u32>, row: u32)
+// Drops a row that stands there once.
+fn drop_row(rows: &mut Vec<u32>, row: u32)
+    requires once { times row rows.old.items ≤ 1 }
     ensures items { rows.new.items ≡ without (row ∷ []) rows.old.items }
     ensures capacity { vec_capacity rows.new ≡ vec_capacity rows.old }
 {
-    rows.retain(|x| *x != row);
+    let len = rows.len();
+    if len > 0 && rows[len - 1] == row {
+        rows.truncate(len - 1);
+    } else {
+        remove_row(rows, row);
+    }
 }

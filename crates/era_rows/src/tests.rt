@@ -5,7 +5,7 @@ ghost use Rattle.std.specs.Prelude.{◌≡◌, ◌<◌, Some, None, []};
 ghost use Rattle.era_rows.specs.Passes.{known_of, work_of, IsPassOf};
 
 use crate::{Law, Names, Pass, Rows};
-use std::alloc::AllocError;
+use std::alloc::{AllocError, Global};
 
 struct AnyTree;
 
@@ -16,7 +16,7 @@ struct Noted {
 }
 
 impl Law for AnyTree {
-    ghost use Rattle.std.specs.Prelude.{false};
+    ghost use Rattle.std.specs.Prelude.{true, false};
     ghost use Rattle.era_rows.specs.Trees.{IsTree};
     ghost use Rattle.era_rows.specs.FirstTree.{first_is_tree};
 
@@ -34,9 +34,13 @@ impl Law for AnyTree {
 
     ghost right = { λ _ _ _. Unit {0} };
 
+    ghost says = { λ _ _ _. true };
+
     ghost fits = { λ _ c tree. tree };
 
     ghost begins = { λ _. (first_is_tree, tt) };
+
+    ghost lasts = { λ _ _ _ _ said. said };
 }
 
 impl Names<AnyTree> for Noted {
@@ -120,6 +124,81 @@ fn keeps_a_work_list(rt: HostRuntime) -> Result<(), AllocError> {
     assert!(&rt;
         use_work(&mut passes[0]) == (7, 0),
         "the word is the one that was set"
+    );
+    Ok(())
+}
+
+// The row that a pass takes, and the one that it takes after it gave that one back.
+fn take_twice(rows: &Rows<AnyTree>, pass: &mut Pass<AnyTree>) -> (Option<u32>, Option<u32>)
+    requires { IsPassOf rows.now pass.old }
+{
+    let first = rows.take(pass);
+    if let Some(row) = first {
+        rows.give_back(pass, row);
+    }
+    (first, rows.take(pass))
+}
+
+// What pass k of two takes so among 64 rows.
+fn pass_takes(alloc: Global, k: usize) -> Result<(Option<u32>, Option<u32>), AllocError>
+    requires { k < 2 }
+{
+    let (rows, mut passes): (Rows<AnyTree>, Vec<Pass<AnyTree>>) = Rows::start(alloc, 0, 64, 2)?;
+    Ok(take_twice(&rows, &mut passes[k]))
+}
+
+#[test]
+fn searches_begin_apart_and_where_a_row_was_freed(rt: HostRuntime) -> Result<(), AllocError> {
+    assert!(&rt;
+        pass_takes(rt.alloc(), 0)? == (Some(1), Some(1)),
+        "row 0 is version 0, so the first pass takes row 1"
+    );
+    assert!(&rt;
+        pass_takes(rt.alloc(), 1)? == (Some(32), Some(32)),
+        "the second of two passes begins at the middle"
+    );
+    Ok(())
+}
+
+// How many bytes the lists of a pass have room for.
+fn reserved(pass: &Pass<AnyTree>) -> usize {
+    let words = pass.retired.capacity().saturating_add(pass.work.capacity());
+    let rows = pass
+        .fresh
+        .capacity()
+        .saturating_add(pass.reached.capacity())
+        .saturating_add(pass.marked.capacity());
+    words
+        .saturating_mul(8)
+        .saturating_add(rows.saturating_mul(4))
+        .saturating_add(pass.loose.capacity())
+}
+
+#[test]
+fn reserves_37_bytes_a_row(rt: HostRuntime) -> Result<(), AllocError> {
+    let (_, passes): (Rows<AnyTree>, Vec<Pass<AnyTree>>) = Rows::start(rt.alloc(), 0, 1000, 2)?;
+    assert!(&rt;
+        reserved(&passes[1]) == 37 * 1000,
+        "the lists of a pass have room for 3 words, 3 rows and a flag for each row"
+    );
+    Ok(())
+}
+
+// What a pass remembers at a place: at first, after words were put there, and after they were forgotten.
+fn use_memory(pass: &mut Pass<AnyTree>) -> [Option<[u64; 6]>; 3] {
+    let first = pass.remembered(15);
+    pass.remember(15, [1, 2, 3, 4, 5, 6]);
+    let then = pass.remembered(15);
+    pass.forget(15);
+    [first, then, pass.remembered(15)]
+}
+
+#[test]
+fn remembers_words(rt: HostRuntime) -> Result<(), AllocError> {
+    let (_, mut passes): (Rows<AnyTree>, Vec<Pass<AnyTree>>) = Rows::start(rt.alloc(), 0, 64, 1)?;
+    assert!(&rt;
+        use_memory(&mut passes[0]) == [None, Some([1, 2, 3, 4, 5, 6]), None],
+        "the words are those that were put there"
     );
     Ok(())
 }

@@ -1,16 +1,16 @@
 //! Freeing retired rows that no reservation blocks.
-ghost use Rattle.std.specs.Prelude.{◌≡◌, ℕ, ◌+◌, ◌<◌, ◌⊎◌, true, Some, length};
-ghost use Rattle.std.specs.List.{swap_remove};
-ghost use Rattle.era_core.specs.Views.{rows_in, reserved, lesser as lesser_of, clears, without_row};
+ghost use Rattle.std.specs.Prelude.{◌≡◌, ℕ, ◌+◌, ◌<◌, ◌⊎◌, true, Some, ◌∷◌, length};
+ghost use Rattle.era_core.specs.Views.{rows_in, without_row};
 ghost use Rattle.era_rows.specs.Known.{looking_at};
 ghost use Rattle.era_rows.specs.Passes.{known_of, IsPassOf, HasSame, blocked, Scans, Tidies};
-ghost use mathlib.Core.Option.{some};
-ghost use lib.ListN.{get_elem?};
+ghost use Rattle.era_rows.specs.Ring.{pairs_in, is_first_clear};
 
 use crate::law::Law;
 use crate::pass::Pass;
 use crate::plays::{Free, Look};
+use crate::ring::is_oldest_clear;
 use crate::rows::Rows;
+use era_core::{ROOT_ROWS, lesser};
 
 impl<L: Law> Rows<L> {
     // Looks at the reservation of a pass.
@@ -42,21 +42,25 @@ impl<L: Law> Rows<L> {
         least
     }
 
-    // Frees the retired row at this place of the list, where a whole scan has cleared its version.
-    fn free_retired(&self, pass: &mut Pass<L>, i: usize)
+    // Frees the retired row that waits longest, where a whole scan has cleared its version. The next search begins there.
+    fn free_oldest(&self, pass: &mut Pass<L>)
         requires pass { IsPassOf self.now pass.old }
         requires scanned { (known_of pass.old).core.scanned ≡ self.now.passes }
-        requires cleared { (p : ℕ × ℕ) × (get_elem? pass.old.retired.items i ≡ some p) × (clears (known_of pass.old).core.least p.0 ≡ true) }
+        requires cleared { is_first_clear (known_of pass.old).core.least (pairs_in pass.old.retired.items) ≡ true }
         ensures pass { IsPassOf self.now pass.new }
         ensures same { HasSame pass.old pass.new }
-        ensures freed { (p : ℕ × ℕ) → get_elem? pass.old.retired.items i ≡ some p → (pass.new.retired.items ≡ swap_remove pass.old.retired.items i p) × (known_of pass.new ≡ record (known_of pass.old) { core = record (known_of pass.old).core { retired = without_row p.1 (known_of pass.old).core.retired } }) }
+        ensures freed { (p : ℕ × ℕ) × (pairs_in pass.old.retired.items ≡ p ∷ pairs_in pass.new.retired.items) × (known_of pass.new ≡ record (known_of pass.old) { core = record (known_of pass.old).core { retired = without_row p.1 (known_of pass.old).core.retired } }) }
     {
-        let (_, row) = pass.retired.swap_remove(i);
+        let Some(word) = pass.retired.pop_front() else {
+            unreachable!()
+        };
+        let row = (word % ROOT_ROWS) as u32;
         let place = self.owner_place(row);
         self.table.shared.store::<Free>(&mut pass.seat, place, 0);
+        pass.next = row;
     }
 
-    // Frees each retired row whose version a whole scan has cleared: how many.
+    // Frees each retired row whose version a whole scan has cleared, those that wait longest: how many.
     fn free_clear(&self, pass: &mut Pass<L>, least: Option<u64>) -> u32
         requires pass { IsPassOf self.now pass.old }
         requires scanned { (known_of pass.old).core.scanned ≡ self.now.passes }
@@ -68,18 +72,15 @@ impl<L: Law> Rows<L> {
         ensures blocked { (known_of pass.new).core.retired ≡ blocked least (known_of pass.old).core.retired }
     {
         let mut freed = 0;
-        let mut i = pass.retired.len();
-        while i > 0 {
-            i -= 1;
-            if is_clear(least, pass.retired[i].0) {
-                self.free_retired(pass, i);
-                freed += 1;
-            }
+        while is_oldest_clear(&pass.retired, least) {
+            self.free_oldest(pass);
+            freed += 1;
         }
         freed
     }
 
-    /// Looks at each reservation once, and frees each batch of the pass that none of them blocks: how many rows are freed.
+    /// Looks at each reservation once, and frees each batch of the pass that none of them blocks: how many rows are freed. It
+    /// looks at no batch behind the first that is blocked. The next search begins at a row that was freed, if one was.
     pub fn tidy(&self, pass: &mut Pass<L>) -> u32
         requires { IsPassOf self.now pass.old }
         ensures pass { IsPassOf self.now pass.new }
@@ -89,28 +90,5 @@ impl<L: Law> Rows<L> {
     {
         let least = self.least_reserved(pass);
         self.free_clear(pass, least)
-    }
-}
-
-// The lesser of a version and the one that a reservation names.
-fn lesser(least: Option<u64>, word: u64) -> Option<u64>
-    ensures { result ≡ lesser_of least (reserved word) }
-{
-    if word == 0 {
-        return least;
-    }
-    match least {
-        None => Some(word - 1),
-        Some(version) => Some(version.min(word - 1)),
-    }
-}
-
-// Whether no reservation names the version or an earlier one, where this is the least that one names.
-fn is_clear(least: Option<u64>, version: u64) -> bool
-    ensures { result ≡ clears least version }
-{
-    match least {
-        None => true,
-        Some(least) => version < least,
     }
 }

@@ -1,6 +1,6 @@
 //! The work list of a pass, for the layer above: room for two words of each row.
 ghost use Rattle.std.specs.Prelude.{◌≡◌, ◌*◌, ◌<◌, ◌≤◌, [], ◌∷◌, ◌++◌, length, slice_set, take};
-ghost use Rattle.era_rows.specs.Passes.{knows_of, known_of, marked_of, work_of, IsPassOf};
+ghost use Rattle.era_rows.specs.Passes.{knows_of, known_of, marked_of, work_of, memory_of, IsPassOf};
 ghost use mathlib.Core.Option.{some};
 ghost use lib.ListN.{get_elem?};
 
@@ -27,6 +27,7 @@ impl<L: Law> Pass<L> {
         ensures number { self.new.number ≡ self.old.number }
         ensures known { knows_of self.new ≡ knows_of self.old }
         ensures marks { marked_of self.new ≡ marked_of self.old }
+        ensures memory { memory_of self.new ≡ memory_of self.old }
         ensures work { work_of self.new ≡ slice_set (work_of self.old) k word }
     {
         self.work[k] = word;
@@ -39,6 +40,7 @@ impl<L: Law> Pass<L> {
         ensures number { self.new.number ≡ self.old.number }
         ensures known { knows_of self.new ≡ knows_of self.old }
         ensures marks { marked_of self.new ≡ marked_of self.old }
+        ensures memory { memory_of self.new ≡ memory_of self.old }
         ensures work { work_of self.new ≡ work_of self.old ++ word ∷ [] }
     {
         self.work.push_reserved(word);
@@ -51,6 +53,7 @@ impl<L: Law> Pass<L> {
         ensures number { self.new.number ≡ self.old.number }
         ensures known { knows_of self.new ≡ knows_of self.old }
         ensures marks { marked_of self.new ≡ marked_of self.old }
+        ensures memory { memory_of self.new ≡ memory_of self.old }
         ensures work { work_of self.new ≡ take len (work_of self.old) }
     {
         self.work.truncate(len);

@@ -2,23 +2,16 @@
 
 ghost use Rattle.std.specs.Prelude.{◌≡◌, ℕ, ◌+◌, ◌^◌, ◌<◌, ◌≤◌, false, length, is_some, slice_index_or, IfOk, IfSome, OnOk, OnErr};
 ghost use Rattle.era_core.specs.Lists.{In, without};
-ghost use Rattle.era_core.specs.Words.{words_len, tree_at, root_word as word_of_root};
+ghost use Rattle.era_core.specs.Words.{words_len, tree_at};
 ghost use Rattle.era_core.specs.Machine.{is_new_tree, allows, after};
 ghost use Rattle.era_core.specs.declared.event.Event.TheVariants.{Publish};
 
 use crate::arena::Core;
 use crate::pass::{PassView, Replaced};
+use crate::sizes::{LAST_VERSION, MOST_ROWS};
 use crate::walk::{new_tree, rows_without, tree_rows};
+use crate::words::packed;
 use std::alloc::{AllocError, Global};
-
-// The root word of a version whose tree stands at a row.
-fn root_word(version: u64, row: u32) -> u64
-    requires version_fits { version < 2 ^ 40 }
-    requires row_fits { row < 2 ^ 24 }
-    ensures { result ≡ word_of_root version row }
-{
-    version * 16_777_216 + u64::from(row)
-}
 
 // The fresh rows and the old ones without the new ones.
 fn without_new(
@@ -55,7 +48,7 @@ fn replaced(
     marks: &mut [bool],
 ) -> Result<Option<Replaced>, AllocError>
     requires long { length words.now ≡ words_len passes rows }
-    requires few_rows { rows ≤ 262144 }
+    requires few_rows { rows ≤ MOST_ROWS }
     requires fresh_in_range { (x : ℕ) → In x fresh.now → x < rows }
     requires old_in_range { (x : ℕ) → In x (tree_at passes rows words.now old_root) → x < rows }
     requires marks_len { length marks.old ≡ rows }
@@ -89,7 +82,7 @@ impl Core {
         let Some((version, row)) = view.pinned else {
             return Ok(false);
         };
-        if version >= 1_099_511_627_775 || !view.has_fresh(root) {
+        if version >= LAST_VERSION || !view.has_fresh(root) {
             return Ok(false);
         }
         let Some(rows) = replaced(
@@ -105,12 +98,12 @@ impl Core {
         else {
             return Ok(false);
         };
-        if self.words[0] != root_word(version, row) {
+        if self.words[0] != packed(version, row) {
             return Ok(true);
         }
         let view = &mut self.views[pass as usize];
         view.publish(version, rows)?;
-        self.words[0] = root_word(version + 1, root);
+        self.words[0] = packed(version + 1, root);
         Ok(true)
     }
 }

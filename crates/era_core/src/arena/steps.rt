@@ -10,6 +10,7 @@ ghost use Rattle.era_core.specs.declared.event.Event.TheVariants.{Note, Announce
 
 use crate::arena::Core;
 use crate::pass::PassView;
+use crate::sizes::{MOST_ROWS, ROOT_ROWS, WIDTH};
 use crate::walk::stands_in_tree;
 use std::alloc::{AllocError, Global};
 
@@ -23,7 +24,7 @@ fn may_read(
     row: u32,
 ) -> Result<bool, AllocError>
     requires long { length words.now ≡ words_len passes rows }
-    requires few_rows { rows ≤ 262144 }
+    requires few_rows { rows ≤ MOST_ROWS }
     requires in_range { (x : ℕ) → In x (pinned_rows passes rows words.now (view_of view.now).pinned) → x < rows }
     ensures { IfOk result (λ may. may ≡ (is_in row (view_of view.now).fresh || is_in row (pinned_rows passes rows words.now (view_of view.now).pinned))) }
 {
@@ -62,7 +63,7 @@ impl Core {
         let Some(version) = self.views[pass as usize].noted else {
             return false;
         };
-        let newest = self.words[0] / 16_777_216;
+        let newest = self.words[0] / ROOT_ROWS;
         prove!(version <= newest);
         self.words[1 + pass as usize] = version + 1;
         true
@@ -101,7 +102,7 @@ impl Core {
         ensures next { OnOk result (self.new ≡ after self.old (Read pass row place)) }
         ensures err { OnErr result (self.new ≡ self.old) }
     {
-        if pass >= self.passes || row >= self.rows || place >= 40 {
+        if pass >= self.passes || row >= self.rows || place >= WIDTH {
             return Ok(false);
         }
         let alloc = *self.words.allocator();
@@ -109,7 +110,7 @@ impl Core {
         if !may_read(alloc, &self.words, self.passes, self.rows, view, row)? {
             return Ok(false);
         }
-        let first = 1 + self.passes as usize + self.rows as usize + 40 * row as usize;
+        let first = 1 + self.passes as usize + self.rows as usize + WIDTH as usize * row as usize;
         let word = self.words[first + place as usize];
         let view = &mut self.views[pass as usize];
         view.read(word);
@@ -140,13 +141,13 @@ impl Core {
         ensures done { result ≡ allows self.old (Write pass row place word) }
         ensures next { self.new ≡ after self.old (Write pass row place word) }
     {
-        if pass >= self.passes || row >= self.rows || place >= 40 {
+        if pass >= self.passes || row >= self.rows || place >= WIDTH {
             return false;
         }
         if !self.views[pass as usize].has_fresh(row) {
             return false;
         }
-        let first = 1 + self.passes as usize + self.rows as usize + 40 * row as usize;
+        let first = 1 + self.passes as usize + self.rows as usize + WIDTH as usize * row as usize;
         self.words[first + place as usize] = word;
         true
     }

@@ -18,7 +18,7 @@ loop-index-preserved c =
     let all = batches_of c.args.batches.now.items in
     let inside : i < length xs = omega (arith, c.loop-index.invariant.as_many) in
     let new : batch_of_rows q ≡ g (batch_of_rows (get_or xs i q)) =
-    ap (λ (rows : List ℕ). (p.version, rows)) c.remove_row.ensures ∙ ap (λ x. g (batch_of_rows x)) (get_or_read xs i p inside c.index_mut.ensures.value q) in
+    ap (λ (rows : List ℕ). (p.version, rows)) c.remove_row.ensures.items ∙ ap (λ x. g (batch_of_rows x)) (get_or_read xs i p inside c.index_mut.ensures.value q) in
     let one_more : suc i ≡ i + 1 = omega arith in
     record {
       so_far = changed_more batch_of_rows g xs i q all inside new c.loop-index.invariant.so_far ∙ ap (λ (n : ℕ). changed g n all) one_more;

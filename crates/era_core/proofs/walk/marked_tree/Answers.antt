@@ -2,6 +2,7 @@ use Rattle.std.proofs.Common.{◌≡◌, ◌/◌, [], ◌++◌, ltb, leb, sym, �
 use Rattle.std.proofs.lemmas.Grind.{common_steps}
 use Rattle.std.specs.List.{list_all}
 use Rattle.std.proofs.lemmas.Bool.{and_parts, ltb-true}
+use Rattle.era_core.specs.declared.sizes.TheConstants.{MOST_LINKS, KINDS}
 use Rattle.era_core.specs.Lists.{In}
 use Rattle.era_core.specs.Words.{links, cell}
 use Rattle.era_core.proofs.Walks.{pending, pending-top_in, Turn, pending-smaller, found-turn}
@@ -37,6 +38,6 @@ returns-clause-allowed c =
 pub push_links-requires-clause-links_in_range : goal.push_links-requires-clause-links_in_range
 push_links-requires-clause-links_in_range c some_level y link =
     let may = and_parts (get_or c.loop-row.marks c.in-Some.row false) (has_links c.args.passes c.args.rows c.args.words.now c.in-Some.row) (sym c.if-not-may_come.ensures.come) in
-    let all = and_parts (leb (cell c.args.passes c.args.rows c.args.words.now c.in-Some.row 0 / 4) 39) (list_all (λ x. ltb x c.args.rows) (links c.args.passes c.args.rows c.args.words.now c.in-Some.row)) may.1 in
+    let all = and_parts (leb (cell c.args.passes c.args.rows c.args.words.now c.in-Some.row 0 / KINDS) MOST_LINKS) (list_all (λ x. ltb x c.args.rows) (links c.args.passes c.args.rows c.args.words.now c.in-Some.row)) may.1 in
     let row = ltb-true y c.args.rows (list_all-in (λ x. ltb x c.args.rows) (links c.args.passes c.args.rows c.args.words.now c.in-Some.row) y all.1 link) in
     omega (arith, c.requires.few_rows)

@@ -11,7 +11,8 @@ use Rattle.era_one_row.specs.OneRow.{IsOneRow}
 use Rattle.era_one_row.specs.Ready.{stamped}
 use Rattle.era_one_row.specs.declared.law.Stamped.{Stamped}
 use Rattle.era_one_row.proofs.Replacing.{is_replaced, may_replace}
-use Rattle.era_one_row.proofs.Finishing.{if_err, Ends, still_pinned, has_published, lists_left, fresh_left, is_beaten, is_spent, goes_on, pin_is_same}
+use Rattle.era_one_row.proofs.Finishing.{if_err, Ends, still_pinned, has_published, lists_left, fresh_left, is_beaten, is_spent, goes_on, pin_is_same, takes-published}
+use Rattle.era_one_row.proofs.Counting.{takes_as}
 use Rattle.era_one_row.proofs.GoingOn.{goes_as}
 use mathlib.Core.Option.{some}
 use lib.ListN.{get_elem?}
@@ -122,3 +123,11 @@ returns-clause-on c =
 pub returns-clause-same_pin : goal.returns-clause-same_pin
 returns-clause-same_pin c =
     same_part (λ k. k.since) (λ _. refl) (λ _ _. refl) c ∙ pin_is_same _ _ _ _ _ _ _ _ _ _ _ _ _ (ended (goal.at.returns-clause-same_pin c).After-publish-published)
+
+pub returns-clause-takes : goal.returns-clause-takes
+returns-clause-takes c =
+    let rows = c.args.rows.now in
+    let sized = c.requires.is_pass.sized in
+    takes_as rows.passes rows.rows 0 (known_of c.args.pass.now) (known_of c.publish-published.new.pass) (known_of c.unpin.new.pass)
+    (takes-published _ _ _ _ _ _ _ _ _ _ _ _ rows.passes rows.rows sized.passes_are sized.rows_are _ (ended (goal.at.returns-clause-takes c).After-publish-published))
+    (same_part (λ k. k.looks) (λ _. refl) (λ _ _. refl) c)

@@ -4,4 +4,4 @@ use Rattle.era_rows.proofs.joins.append.Given as goal
 
 -- the first so many stand behind those that were there
 abbrev pub invariant-loop-i : goal.invariant-loop-i
-invariant-loop-i g l = (l.items.items ≡ l.fn.items.items ++ take l.i l.more.items) × (vec_capacity l.items ≡ vec_capacity l.fn.items)
+invariant-loop-i l = (l.items.items ≡ l.fn.items.items ++ take l.i l.more.items) × (vec_capacity l.items ≡ vec_capacity l.fn.items)

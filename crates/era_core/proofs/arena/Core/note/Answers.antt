@@ -1,6 +1,7 @@
-use Rattle.std.proofs.Common.{◌+◌, ◌/◌, ◌^◌, ◌<◌, cond, eqb, ap, ◌∙◌, arith}
+use Rattle.std.proofs.Common.{◌+◌, ◌/◌, ◌<◌, cond, eqb, ap, ◌∙◌, arith}
 use Rattle.std.specs.Prelude.{◌&&◌, is_none}
 use Rattle.std.proofs.lemmas.List.{get_or_read}
+use Rattle.era_core.specs.declared.sizes.TheConstants.{ROOT_ROWS}
 use Rattle.era_core.specs.Views.{noting}
 use Rattle.era_core.specs.Passes.{view_of}
 use Rattle.era_core.specs.Machine.{allows, after}
@@ -20,7 +21,7 @@ step c =
     stepped view_of it.passes it.rows it.words.items it.views.items (Note c.args.pass) c.note.result it.words.items c.index_mut-view.result.now c.note.new.self kept pass c.index_mut-view.ensures.value
     (c.note.ensures.done ∙ ap (λ w. is_none v.pinned && eqb w 0) own)
     (either_way c.note.result it.words.items)
-    (c.note.ensures.next ∙ ap (λ w. cond c.note.result (noting (w / 2 ^ 24) v) v) root)
+    (c.note.ensures.next ∙ ap (λ w. cond c.note.result (noting (w / ROOT_ROWS) v) v) root)
 
 pub invariant_of-self : goal.invariant_of-self
 invariant_of-self c = record { running = (step c).running; marked = c.self.invariant.marked; clear = c.self.invariant.clear }

@@ -1,6 +1,7 @@
-use Rattle.std.proofs.Common.{◌+◌, ◌/◌, ◌%◌, ◌^◌, ◌<◌, cond, ltb, ap, ◌∙◌, arith}
+use Rattle.std.proofs.Common.{◌+◌, ◌/◌, ◌%◌, ◌<◌, cond, ltb, ap, ◌∙◌, arith}
 use Rattle.std.specs.Prelude.{◌&&◌, is_none}
 use Rattle.std.proofs.lemmas.List.{get_or_read}
+use Rattle.era_core.specs.declared.sizes.TheConstants.{ROOT_ROWS}
 use Rattle.era_core.specs.Views.{pinning}
 use Rattle.era_core.specs.Passes.{view_of}
 use Rattle.era_core.specs.Machine.{allows, after}
@@ -20,7 +21,7 @@ step c =
     stepped view_of it.passes it.rows it.words.items it.views.items (Pin c.args.pass) c.pin.result it.words.items c.index_mut-view.result.now c.pin.new.self kept pass c.index_mut-view.ensures.value
     (c.pin.ensures.done ∙ ap (λ w. is_none v.pinned && ltb 0 w) own)
     (either_way c.pin.result it.words.items)
-    (c.pin.ensures.next ∙ ap (λ w. cond c.pin.result (pinning (w / 2 ^ 24) (w % 2 ^ 24) v) v) root)
+    (c.pin.ensures.next ∙ ap (λ w. cond c.pin.result (pinning (w / ROOT_ROWS) (w % ROOT_ROWS) v) v) root)
 
 pub invariant_of-self : goal.invariant_of-self
 invariant_of-self c = record { running = (step c).running; marked = c.self.invariant.marked; clear = c.self.invariant.clear }

@@ -2,6 +2,7 @@ use Rattle.std.proofs.Common.{◌≡◌, ℕ, ◌+◌, ◌*◌, ◌<◌, Bool, l
 use Rattle.std.specs.Prelude.{◌&&◌, ◌||◌}
 use Rattle.std.proofs.lemmas.Bool.{and_from}
 use Rattle.std.proofs.lemmas.List.{get_or_read, length-map}
+use Rattle.era_core.specs.declared.sizes.TheConstants.{WIDTH}
 use Rattle.era_core.specs.Lists.{In, is_in}
 use Rattle.era_core.specs.Views.{reading}
 use Rattle.era_core.specs.Passes.{view_of}
@@ -27,7 +28,7 @@ denied c =
     let reads : List ℕ → Bool = λ (ws : List ℕ). is_in c.args.row p.fresh.items || is_in c.args.row (pinned_rows it.passes it.rows ws p.pinned) in
     let no_row : reads it.words.items ≡ false = ap reads (sym c.deref.ensures.value) ∙ sym c.in_ok-may_read.ensures ∙ c.if-not-branch.true in
     refused view_of it.passes it.rows it.words.items it.views.items (Read c.args.pass c.args.row c.args.place) p c.self.invariant.running c.if-pass-self.false c.index-view.ensures
-    (none_of (ltb c.args.row it.rows && ltb c.args.place 40) (reads it.words.items) no_row)
+    (none_of (ltb c.args.row it.rows && ltb c.args.place WIDTH) (reads it.words.items) no_row)
 
 pub returns-then-not-branch-clause-done : goal.returns-then-not-branch-clause-done
 returns-then-not-branch-clause-done c = sym (denied c).0 ∙ ap (λ m. allows m (Read c.args.pass c.args.row c.args.place)) c.self.view_is
@@ -41,18 +42,18 @@ step c =
     let kept = c.self.invariant.running in
     let pass : c.args.pass < it.passes = c.if-pass-self.false in
     let row : c.args.row < it.rows = c.if-row-self.false in
-    let place : c.args.place < 40 = c.if-place-ge40.false in
+    let place : c.args.place < WIDTH = c.if-place-ge-WIDTH.false in
     let p : PassView = c.index_mut-view.result.now in
     let within : c.args.pass < length it.views.items = omega (arith, length-map it.views.items view_of, kept.counted, pass) in
     let same : c.index-view.result.now ≡ p = get_or_read it.views.items c.args.pass c.index-view.result.now within c.index-view.ensures p ∙ sym c.index_mut-view.ensures.value in
     let reads : PassView → List ℕ → Bool = λ (x : PassView) (ws : List ℕ). is_in c.args.row x.fresh.items || is_in c.args.row (pinned_rows it.passes it.rows ws x.pinned) in
     let may_read : reads p it.words.items ≡ true =
     ap (λ (x : PassView). reads x it.words.items) (sym same) ∙ ap (reads c.index-view.result.now) (sym c.deref.ensures.value) ∙ sym c.in_ok-may_read.ensures ∙ c.if-not-branch.false in
-    let at : ℕ = 1 + it.passes + it.rows + 40 * c.args.row + c.args.place in
+    let at : ℕ = 1 + it.passes + it.rows + WIDTH * c.args.row + c.args.place in
     let found = get_or_read it.words.items at c.index-word.result.now (omega (arith, kept.long, row, place)) c.index-word.ensures 0 in
     stepped view_of it.passes it.rows it.words.items it.views.items (Read c.args.pass c.args.row c.args.place) true it.words.items p c.read.new.self kept pass c.index_mut-view.ensures.value
-    (sym (and_from (ltb c.args.row it.rows && ltb c.args.place 40) (reads p it.words.items)
-    (and_from (ltb c.args.row it.rows) (ltb c.args.place 40) (lt-ltb c.args.row it.rows row) (lt-ltb c.args.place 40 place)) may_read))
+    (sym (and_from (ltb c.args.row it.rows && ltb c.args.place WIDTH) (reads p it.words.items)
+    (and_from (ltb c.args.row it.rows) (ltb c.args.place WIDTH) (lt-ltb c.args.row it.rows row) (lt-ltb c.args.place WIDTH place)) may_read))
     refl
     (c.read.ensures ∙ ap (λ w. reading w (view_of p)) found)
 

@@ -1,11 +1,14 @@
-use Rattle.std.proofs.Common.{◌≡◌, Some, refl, inl, ap, ◌∙◌, arith}
+use Rattle.std.proofs.Common.{◌≡◌, Some, drop, length, refl, sym, inl, ap, ◌∙◌, arith}
 use Rattle.atomic_table.specs.Table.{Me}
 use Rattle.era_rows.specs.Known.{joining_known, looking_at}
+use Rattle.era_rows.specs.Ring.{pairs_in}
 use Rattle.era_rows.specs.declared.views.Knows.{Knows}
 use Rattle.era_rows.proofs.Joining.{joins_seats}
 use Rattle.era_rows.proofs.Looking.{looks_at}
+use Rattle.era_rows.proofs.Orders.{pairs_long}
 use Rattle.era_rows.proofs.Tied.{tied_as, room_as, tied_same}
 use Rattle.era_rows.proofs.Tidying.{joined_room, joined_inside, tied_joined, looked_joined}
+use Rattle.era_rows.proofs.Remembering.{recalls_more}
 use Rattle.era_rows.proofs.rows.Rows.join.Goals as goal
 
 pub join_seat-requires : goal.join_seat-requires
@@ -54,15 +57,18 @@ loosen-requires g c =
     let told = looked_joined pass.seat.me.0 other.seat.me.0 c.join_seat.new.seat.me c.load.new.seat.me pass.seat.me.1 c.load.result c.join_seat.ensures.2 (c.load.ensures.2 0 (omega arith)).0 (c.load.ensures.2 0 (omega arith)).1 in
     record { inside = λ r here. (let low = joined_inside pass.tied other.tied told.1 r here in omega (arith, pass.tied.counted)) }
 
-pub append-requires-2 : goal.append-requires-2
-append-requires-2 g c =
+pub merge-requires : goal.merge-requires
+merge-requires g c =
     let rows = c.args.self.now in
     let pass = c.args.pass.now in
     let other = c.args.other in
     let place = c.reservation_place-place.ensures in
     let told = looked_joined pass.seat.me.0 other.seat.me.0 c.join_seat.new.seat.me c.load.new.seat.me pass.seat.me.1 c.load.result c.join_seat.ensures.2 (c.load.ensures.2 0 (omega arith)).0 (c.load.ensures.2 0 (omega arith)).1 in
     let few = (joined_room pass.tied other.tied told.1).1 in
-    (let roomy = pass.roomy.3 in omega (arith, pass.retired.ok.0, other.retired.ok.0))
+    record {
+      room = (let roomy = pass.roomy.3 in omega (arith, pairs_long pass.retired.items, pairs_long other.retired.items));
+      in_order = (pass.tied.in_order, other.tied.in_order);
+    }
 
 pub invariant_of-pass : goal.invariant_of-pass
 invariant_of-pass g c =
@@ -75,11 +81,13 @@ invariant_of-pass g c =
     let now = looking_at 0 c.load.result both in
     let view_is = ap (λ (k : Knows g.row.L-Entry.Denot). k.view) told.0 in
     record {
-      tied = tied_as view_is refl c.append.ensures.items refl refl c.append-2.ensures.items
-          (tied_same (tied_joined pass.tied other.tied told.1 c.loosen.new.loose.items c.requires.unpinned.0 (c.loosen.ensures.len ∙ pass.tied.counted) c.loosen.ensures.loose)
+      tied = tied_as view_is refl c.append.ensures.items refl refl refl
+          (tied_same (tied_joined pass.tied other.tied told.1 c.loosen.new.loose.items (pairs_in c.merge.new.retired.items) c.requires.unpinned.0 (c.loosen.ensures.len ∙ pass.tied.counted) c.loosen.ensures.loose
+          c.merge.ensures.in_order c.merge.ensures.all)
           now.core.scanned now.core.least now.core.last now.looks now.full);
+      recalls = recalls_more g.L.Law.lasts (ap (λ (x : Knows g.row.L-Entry.Denot). x.view.shape) told.0) (drop (length pass.seat.me.0.seen) other.seat.me.0.seen, sym (ap (λ (x : Knows g.row.L-Entry.Denot). x.seen) told.0)) pass.recalls;
       bare = told.2 ∙ pass.bare;
-      roomy = room_as (ap (λ (k : Knows g.row.L-Entry.Denot). k.view.rows) told.0) c.append.ensures.capacity refl refl c.append-2.ensures.capacity refl pass.roomy;
+      roomy = room_as (ap (λ (k : Knows g.row.L-Entry.Denot). k.view.rows) told.0) c.append.ensures.capacity refl refl c.merge.ensures.capacity refl pass.roomy;
     }
 
 pub returns-clause-pass : goal.returns-clause-pass

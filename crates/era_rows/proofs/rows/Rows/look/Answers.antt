@@ -3,6 +3,7 @@ use Rattle.era_rows.specs.Known.{looking_at}
 use Rattle.era_rows.specs.declared.views.Knows.{Knows}
 use Rattle.era_rows.proofs.Looking.{looks_at}
 use Rattle.era_rows.proofs.Tied.{tied_as, room_as, tied_same}
+use Rattle.era_rows.proofs.Remembering.{recalls_as}
 use Rattle.era_rows.proofs.rows.Rows.look.Goals as goal
 
 pub load-requires : goal.load-requires
@@ -28,6 +29,7 @@ invariant_of-pass g c =
     let now = looking_at c.args.number c.load.result k in
     record {
       tied = tied_as (ap (λ (x : Knows g.row.L-Entry.Denot). x.view) told.0) refl refl refl refl refl (tied_same pass.tied now.core.scanned now.core.least now.core.last now.looks now.full);
+      recalls = recalls_as (ap (λ (x : Knows g.row.L-Entry.Denot). x.view.shape) told.0) (ap (λ (x : Knows g.row.L-Entry.Denot). x.seen) told.0) pass.recalls;
       bare = told.1 ∙ pass.bare;
       roomy = room_as (ap (λ (x : Knows g.row.L-Entry.Denot). x.view.rows) told.0) refl refl refl refl refl pass.roomy;
     }
@@ -51,7 +53,7 @@ returns-clause-same g c =
     let place = c.reservation_place-place.ensures in
     let told = (c.load.ensures.2 c.args.number (omega arith)).0 in
     record {
-      same_pass = record { same_number = refl; same_work = refl };
+      same_pass = record { same_number = refl; same_work = refl; same_memory = refl };
       same_marks = refl;
       same_seen = ap (λ (k : Knows g.row.L-Entry.Denot). k.seen) told.0;
       same_lists = ap (λ (k : Knows g.row.L-Entry.Denot). k.lists) told.0;

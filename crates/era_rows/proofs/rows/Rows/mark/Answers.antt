@@ -1,5 +1,5 @@
 use Rattle.std.proofs.Common.{refl, arith}
-use Rattle.era_rows.proofs.Room.{room}
+use Rattle.era_core.proofs.Room.{room}
 use Rattle.era_rows.proofs.Tied.{tied_as, room_as}
 use Rattle.era_rows.proofs.Published.{tied_mark}
 use Rattle.era_rows.proofs.rows.Rows.mark.Goals as goal
@@ -16,6 +16,7 @@ invariant_of-pass g c =
     let pass = c.args.pass.now in
     record {
       tied = tied_as refl refl refl refl c.push_reserved.ensures.items refl (tied_mark pass.tied c.args.row c.requires.unmarked (pass.tied.tree.inside c.args.row c.requires.row));
+      recalls = pass.recalls;
       bare = pass.bare;
       roomy = room_as refl refl refl c.push_reserved.ensures.capacity refl refl pass.roomy;
     }

@@ -1,4 +1,5 @@
 use Rattle.std.proofs.Common.{◌≡◌, ◌/◌, ◌%◌, refl, ap, subst, ◌∙◌, arith}
+use Rattle.era_core.specs.declared.sizes.TheConstants.{ROOT_ROWS}
 use Rattle.era_core.specs.Words.{root_word}
 use Rattle.era_core.proofs.ListFacts.{at_within}
 use Rattle.era_rows.specs.Known.{noting_root, reserving, pinning_root}
@@ -8,6 +9,8 @@ use Rattle.era_rows.specs.Plays.{Pins}
 use Rattle.era_rows.specs.declared.views.Knows.{Knows}
 use Rattle.era_rows.proofs.Reading.{notes_root, announces_at, pins_root}
 use Rattle.era_rows.proofs.Tied.{tied_as, room_as, tied_pinned}
+use Rattle.era_rows.specs.Lists.{IsPrefix}
+use Rattle.era_rows.proofs.Remembering.{recalls_more}
 use Rattle.era_rows.proofs.rows.Rows.pin.Goals as goal
 
 pub load-noted-requires : goal.load-noted-requires
@@ -35,7 +38,7 @@ store-requires g c =
       (let long = rows.long in omega (arith, sized.passes_are)),
       announces_at g.L.Law.caller g.L.Law.stamp g.L.Law.accepted g.L.Law.lawful g.L.Law.stands g.L.Law.right key rows.table.shared.table_id.slots seat.id pass.number seat.me
           (ap (λ (x : Knows g.row.L-Entry.Denot). x.view.core.number) now ∙ pass.tied.numbered)
-          (c.load-noted.result / 16777216) _ _ place refl (ap (λ (x : Knows g.row.L-Entry.Denot). x.view.core.noted) now)
+          (c.load-noted.result / ROOT_ROWS) _ _ place refl (ap (λ (x : Knows g.row.L-Entry.Denot). x.view.core.noted) now)
           (ap (λ (x : Knows g.row.L-Entry.Denot). x.view.reserves) now ∙ pass.tied.silent c.requires.unpinned),
     )
 
@@ -46,7 +49,7 @@ load-root-requires g c =
     let key = rows.table.shared.key in
     let seat = c.store.new.seat in
     let noted = c.load-noted.ensures.2.0 in
-    let now = (c.store.ensures.2 (c.load-noted.result / 16777216) refl).0 in (
+    let now = (c.store.ensures.2 (c.load-noted.result / ROOT_ROWS) refl).0 in (
       c.store.ensures.0 ∙ c.load-noted.ensures.0 ∙ c.requires.pass.at_table,
       (let long = rows.long in omega arith),
       pins_root g.L.Law.caller g.L.Law.stamp g.L.Law.accepted g.L.Law.lawful g.L.Law.stands g.L.Law.right key rows.table.shared.table_id.slots seat.id pass.number seat.me
@@ -59,7 +62,7 @@ load-root-requires g c =
 pub invariant_of-pass : goal.invariant_of-pass
 invariant_of-pass g c =
     let pass = c.args.pass.now in
-    let n = c.load-noted.result / 16777216 in
+    let n = c.load-noted.result / ROOT_ROWS in
     let w = c.load-root.result in
     let noted = c.load-noted.ensures.2 in
     let reserved = c.store.ensures.2 n refl in
@@ -71,14 +74,15 @@ invariant_of-pass g c =
     told.0.view_is ∙ ap (pinning_root w copies) mid in
     record {
       tied = tied_as now refl refl refl refl refl
-          (tied_pinned pass.tied n w c.load-noted.result copies (subst HoldsTree now told.0.tree) (at_within copies (w / 16777216) _ told.0.there) c.load-root.type_inv);
+          (tied_pinned pass.tied n w c.load-noted.result copies (subst HoldsTree now told.0.tree) (at_within copies (w / ROOT_ROWS) _ told.0.there) c.load-root.type_inv);
+      recalls = recalls_more g.L.Law.lasts (ap (λ k. k.shape) now) (subst (λ xs. IsPrefix xs c.load-root.new.seat.me.0.seen) (ap (λ (x : Knows g.row.L-Entry.Denot). x.seen) reserved.0 ∙ ap (λ (x : Knows g.row.L-Entry.Denot). x.seen) noted.0) told.0.learns.seen_more) pass.recalls;
       bare = told.1 ∙ reserved.1 ∙ noted.1 ∙ pass.bare;
       roomy = room_as (ap (λ k. k.rows) now) refl refl refl refl refl pass.roomy;
     }
 
 pub returns-clause-pass : goal.returns-clause-pass
 returns-clause-pass g c =
-    let n = c.load-noted.result / 16777216 in
+    let n = c.load-noted.result / ROOT_ROWS in
     let sized = c.requires.pass.sized in
     let noted = ap (λ (x : Knows g.row.L-Entry.Denot). x.view) c.load-noted.ensures.2.0 in
     let reserved = ap (λ (x : Knows g.row.L-Entry.Denot). x.view) (c.store.ensures.2 n refl).0 in
@@ -94,7 +98,7 @@ returns-clause-pass g c =
 
 pub returns-clause-pinned : goal.returns-clause-pinned
 returns-clause-pinned g c =
-    let n = c.load-noted.result / 16777216 in
+    let n = c.load-noted.result / ROOT_ROWS in
     let w = c.load-root.result in
     let after = c.load-root.new.seat.me.0 in
     let noted = c.load-noted.ensures.2.0 in
@@ -103,7 +107,7 @@ returns-clause-pinned g c =
     let start : Knows g.row.L-Entry.Denot = knowing before.seen before.lists (reserving n (noting_root c.load-noted.result before.view)) in
     let mid : c.store.new.seat.me.0 ≡ start =
     reserved ∙ ap (λ (x : Knows g.row.L-Entry.Denot). knowing x.seen x.lists (reserving n x.view)) noted in
-    let whole : w ≡ root_word (w / 16777216) (w % 16777216) = omega arith in (
+    let whole : w ≡ root_word (w / ROOT_ROWS) (w % ROOT_ROWS) = omega arith in (
       c.load-noted.result,
       subst (λ x. Pins g.L.Law.caller g.L.Law.stamp g.L.Law.accepted g.L.Law.lawful g.L.Law.stands g.L.Law.right x start after) whole
           (subst (λ m. Pins g.L.Law.caller g.L.Law.stamp g.L.Law.accepted g.L.Law.lawful g.L.Law.stands g.L.Law.right w m after) mid c.load-root.ensures.2.0),

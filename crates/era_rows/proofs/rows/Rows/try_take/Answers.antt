@@ -3,6 +3,7 @@ use Rattle.era_rows.specs.Known.{finding, recording}
 use Rattle.era_rows.specs.declared.views.Knows.{Knows}
 use Rattle.era_rows.proofs.Allowing.{takes_at}
 use Rattle.era_rows.proofs.Tied.{tied_as, room_as, tied_room, tied_same, tied_taken}
+use Rattle.era_rows.proofs.Remembering.{recalls_as}
 use Rattle.era_rows.proofs.rows.Rows.try_take.Goals as goal
 
 pub compare_exchange-found-requires : goal.compare_exchange-found-requires
@@ -43,6 +44,7 @@ invariant_of-pass g c =
     record {
       tied = tied_as (ap (λ (x : Knows g.row.L-Entry.Denot). x.view) now.0) refl refl refl refl refl
           (tied_same pass.tied k.core.scanned k.core.least k.core.last looked.looks (g.M.Missing.full looked));
+      recalls = recalls_as (ap (λ (x : Knows g.row.L-Entry.Denot). x.view.shape) now.0) (ap (λ (x : Knows g.row.L-Entry.Denot). x.seen) now.0) pass.recalls;
       bare = now.1 ∙ pass.bare;
       roomy = room_as rows_are refl refl refl refl refl pass.roomy;
     }
@@ -76,6 +78,7 @@ invariant_of-pass-2 g c =
     record {
       tied = tied_as (ap (λ (x : Knows g.row.L-Entry.Denot). x.view) taken.0.0) refl items (search rules) refl refl
           (tied_taken pass.tied c.args.row row taken.1);
+      recalls = recalls_as (ap (λ (x : Knows g.row.L-Entry.Denot). x.view.shape) taken.0.0) (ap (λ (x : Knows g.row.L-Entry.Denot). x.seen) taken.0.0) pass.recalls;
       bare = taken.0.1 ∙ pass.bare;
       roomy = room_as rows_are c.push_reserved.ensures.capacity refl refl refl refl pass.roomy;
     }

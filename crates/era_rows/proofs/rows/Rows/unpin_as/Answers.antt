@@ -2,6 +2,7 @@ use Rattle.std.proofs.Common.{refl, sym, ap, ◌∙◌, arith}
 use Rattle.era_rows.specs.declared.views.Knows.{Knows}
 use Rattle.era_rows.proofs.Leaving.{leaves_at}
 use Rattle.era_rows.proofs.Tied.{tied_as, room_as, tied_left}
+use Rattle.era_rows.proofs.Remembering.{recalls_as}
 use Rattle.era_rows.proofs.rows.Rows.unpin_as.Goals as goal
 
 pub store-requires : goal.store-requires
@@ -26,6 +27,7 @@ invariant_of-pass g c =
     let now = ap (λ (x : Knows g.row.L-Entry.Denot). x.view) told.0 in
     record {
       tied = tied_as now refl refl refl c.clear.ensures.items refl (tied_left pass.tied);
+      recalls = recalls_as (ap (λ (x : Knows g.row.L-Entry.Denot). x.view.shape) told.0) (ap (λ (x : Knows g.row.L-Entry.Denot). x.seen) told.0) pass.recalls;
       bare = told.1 ∙ pass.bare;
       roomy = room_as (ap (λ x. x.rows) now) refl refl c.clear.ensures.capacity refl refl pass.roomy;
     }

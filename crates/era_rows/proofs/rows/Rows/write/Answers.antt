@@ -2,6 +2,7 @@ use Rattle.std.proofs.Common.{rules, ◌≡◌, ◌<◌, refl, ap, ◌∙◌, ar
 use Rattle.era_rows.specs.declared.views.Knows.{Knows}
 use Rattle.era_rows.proofs.Tied.{tied_as, room_as, tied_row, tied_written}
 use Rattle.era_rows.proofs.Allowing.{writes_at}
+use Rattle.era_rows.proofs.Remembering.{recalls_as}
 use Rattle.era_rows.proofs.rows.Rows.write.Goals as goal
 
 pub cell_place-at-requires : goal.cell_place-at-requires
@@ -37,6 +38,7 @@ invariant_of-pass g c =
     record {
       tied = tied_as now refl refl refl refl refl
           (tied_written pass.tied c.args.row c.args.place c.args.word c.requires.fresh);
+      recalls = recalls_as (ap (λ (x : Knows g.row.L-Entry.Denot). x.view.shape) told.0) (ap (λ (x : Knows g.row.L-Entry.Denot). x.seen) told.0) pass.recalls;
       bare = told.1 ∙ pass.bare;
       roomy = room_as (ap (λ x. x.rows) now) refl refl refl refl refl pass.roomy;
     }
@@ -60,4 +62,4 @@ returns-clause-same g c =
     let place = c.cell_place-at.ensures in
     let sized = c.requires.pass.sized in
     let now = (c.store.ensures.2 c.args.row c.args.place c.requires.place (omega (arith, sized.passes_are, sized.rows_are))).0 in
-    record { same_pass = record { same_number = search rules; same_work = search rules }; same_marks = search rules; same_seen = ap (λ k. k.seen) now; same_lists = ap (λ k. k.lists) now }
+    record { same_pass = record { same_number = search rules; same_work = search rules; same_memory = search rules }; same_marks = search rules; same_seen = ap (λ k. k.seen) now; same_lists = ap (λ k. k.lists) now }
