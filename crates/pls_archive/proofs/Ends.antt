@@ -1,3 +1,4 @@
+-- The two ways in which a run with enough fuel ends.
 use Rattle.std.proofs.Common.{◌≡◌, ℕ, zero, suc, ◌+◌, ◌<◌, ◌≤◌, Bool, true, false, List, [], ◌∷◌, ◌++◌, length, Option, Some, None, refl, ap, sym, subst, ◌∙◌, append_assoc, arith, length-append}
 use Rattle.std.specs.List.{slice_get}
 use Rattle.std.proofs.lemmas.Bool.{both_ways}
@@ -11,8 +12,8 @@ use Rattle.pls_archive.specs.History.{accepted_by, submissions, accepted, with_c
 use Rattle.pls_archive.specs.Run.{Run, unless_cut, for_point, exploring, exploring_all, begun, ended}
 use Rattle.pls_archive.specs.RunLaws.{HasEnoughFuel}
 use Rattle.pls_archive.proofs.Histories.{accepted-with_call}
-use Rattle.pls_archive.proofs.Moves.{length-accepted, work, work-exploring, work-begun}
-use Rattle.pls_archive.proofs.Runs.{exploring_all-by_cases, exploring-keeps}
+use Rattle.pls_archive.proofs.Drawn.{length-accepted, work, work-exploring, work-begun}
+use Rattle.pls_archive.proofs.RunInduction.{exploring_all-by_cases, exploring-keeps}
 
 -- the point after those that were explored
 next_waiting :

@@ -1,3 +1,4 @@
+-- In a run that is not cut each accepted point is explored; in one that is, their neighbours are more than the moves.
 use Rattle.std.proofs.Common.{◌≡◌, ℕ, zero, suc, ◌+◌, ◌<◌, ◌≤◌, true, false, List, [], ◌∷◌, ◌++◌, length, map, refl, ap, sym, subst, ◌∙◌, append_assoc, arith, length-append}
 use Rattle.std.specs.List.{flat_map}
 use Rattle.std.proofs.lemmas.Bool.{both_ways}
@@ -13,8 +14,8 @@ use Rattle.pls_archive.specs.Run.{Run, submitting, spending, exploring, ended}
 use Rattle.pls_archive.specs.RunLaws.{ExploresAllAccepted, IsCutWithoutMoves}
 use Rattle.pls_archive.proofs.Ends.{Steps, ended-Ends, accepted-exploring}
 use Rattle.pls_archive.proofs.Histories.{accepted-with_snapshot}
-use Rattle.pls_archive.proofs.Moves.{moves-spending, moves-cut}
-use Rattle.pls_archive.proofs.Runs.{exploring-by_cases}
+use Rattle.pls_archive.proofs.Drawn.{moves-spending, moves-cut}
+use Rattle.pls_archive.proofs.RunInduction.{exploring-by_cases}
 
 -- the values that one more call asks for
 values_asked-with_call :

@@ -1,3 +1,4 @@
+-- The members in ascending lexicographic order of their values: the same points, and the only such list.
 use Rattle.std.proofs.Common.{◌≡◌, ℤ, true, false, List, [], ◌∷◌, get_or, Ordering, Less, Equal, Greater, refl, ap, ◌∙◌, arith}
 use Rattle.std.specs.Cmp.{IsStrictWeakOrder, IsTotalOrder, on_total, int_cmp_total}
 use Rattle.std.specs.Cmp.Lexicographic.{slice_cmp, lists_total}
@@ -29,7 +30,7 @@ pub by_value-IsStrictWeakOrder : IsStrictWeakOrder (λ (p q : Point). is_lt (sli
 by_value-IsStrictWeakOrder = ranks_by (lists_total int_cmp_total) (λ (p : Point). p.value)
 
 -- put in order, they are the same points
-put_in_order-IsPermutation : (p : Point) (points : List Point) → IsPermutation (p ∷ points) (put_in_order p points)
+pub put_in_order-IsPermutation : (p : Point) (points : List Point) → IsPermutation (p ∷ points) (put_in_order p points)
 put_in_order-IsPermutation p [] = IsPermutation-refl (p ∷ [])
 put_in_order-IsPermutation p (q ∷ points) =
     let exchanged = IsPermutation-middle (q ∷ []) p points in

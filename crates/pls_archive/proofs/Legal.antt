@@ -1,3 +1,4 @@
+-- Every history of the run is legal.
 use Rattle.std.proofs.Common.{ℕ, List, [], ◌∷◌, ◌++◌, refl, sym, subst, append_assoc}
 use Rattle.std.proofs.lemmas.List.{append-nil}
 use Rattle.pls_archive.specs.declared.point.Point.{Point}
@@ -6,7 +7,7 @@ use Rattle.pls_archive.specs.declared.call.Reply.{Reply}
 use Rattle.pls_archive.specs.declared.call.Entry.{Entry}
 use Rattle.pls_archive.specs.History.{next_entry, with_call, ContinuesLegally, IsLegal}
 use Rattle.pls_archive.specs.Run.{sequential_run}
-use Rattle.pls_archive.proofs.Runs.{sequential_run-keeps}
+use Rattle.pls_archive.proofs.RunInduction.{sequential_run-keeps}
 
 module _ (reply : List Point → Call → Reply) where
   ContinuesLegally-append :

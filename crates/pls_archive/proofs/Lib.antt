@@ -5,8 +5,9 @@ pub mod InOrder
 pub mod Legal
 pub mod LocalOptima
 pub mod Members
-pub mod Moves
+pub mod Drawn
 mod NineCalls
-pub mod Runs
+pub mod Printed
+pub mod RunInduction
 pub mod Sorted
 pub mod Submitted

@@ -1,3 +1,4 @@
+-- Where a run is not cut, its members are a Pareto local optimum set.
 use Rattle.std.proofs.Common.{◌≡◌, ◌<◌, ℕ, ℤ, Bool, true, false, not, ◌&&◌, ◌⊎◌, inl, inr, if◌then◌else◌, List, [], ◌∷◌, ◌++◌, length, get_or, filter, All, refl, ap, sym, subst, ◌∙◌, append_assoc, arith}
 use Rattle.std.specs.List.{Contains, list_any}
 use Rattle.std.proofs.lemmas.Bool.{cases_Bool, and_parts, and_from, or_left, or_right, or_from, both_ways, false_from_ne_true}
@@ -20,8 +21,8 @@ use Rattle.pls_archive.specs.RunLaws.{IsParetoLocalOptimumSet, EndsInLocalOptima
 use Rattle.pls_archive.proofs.Ends.{Steps, ended-Ends, accepted-exploring}
 use Rattle.pls_archive.proofs.Histories.{accepted-with_added, accepted-with_refused, submissions-with_update, submissions-with_covered, accepted-with_covered, submissions-with_member, accepted-with_member, submissions-with_snapshot, accepted-with_snapshot}
 use Rattle.pls_archive.proofs.Members.{point_weakly_dominates-IsPreorder, some_weakly_dominates-members, members-with_covered, members-with_new, update-covered, update-new}
-use Rattle.pls_archive.proofs.Moves.{submissions-spending}
-use Rattle.pls_archive.proofs.Runs.{exploring-by_cases, exploring-keeps, submitting-keeps}
+use Rattle.pls_archive.proofs.Drawn.{submissions-spending}
+use Rattle.pls_archive.proofs.RunInduction.{exploring-by_cases, exploring-keeps, submitting-keeps}
 
 -- what is weakly dominated stays so
 some_weakly_dominates-more :

@@ -1,3 +1,4 @@
+-- The members of the archive, and what it replies to each call.
 use Rattle.std.proofs.Common.{◌≡◌, ◌↔◌, ℕ, ℤ, Bool, true, false, not, IsTrue, if◌then◌else◌, List, [], ◌∷◌, ◌++◌, filter, refl, ap, sym, ◌∙◌}
 use Rattle.pls_vectors.specs.Archive.{IsPreorder, dominates}
 use Rattle.pls_vectors.specs.Solution.{no_items}

@@ -1,3 +1,4 @@
+-- Nine calls on a new archive, with the replies and the stamps that are due, computed.
 use Rattle.std.proofs.Common.{◌≡◌, ℕ, ℤ, pos, List, [], ◌∷◌, map, fold, refl}
 use Rattle.pls_vectors.specs.Solution.{no_items}
 use Rattle.pls_archive.specs.declared.point.Point.{Point}

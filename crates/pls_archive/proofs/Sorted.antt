@@ -1,3 +1,4 @@
+-- Lists in ascending order, and why a strictly ascending one is the only one of its elements.
 use Rattle.std.proofs.Common.{◌≡◌, ℕ, zero, suc, ◌+◌, ◌<◌, ◌⊎◌, false, inl, inr, List, [], ◌∷◌, length, get_or, All, Ordering, Less, Equal, Greater, refl, ap, sym, subst, ◌∙◌, arith}
 use Rattle.std.specs.Cmp.{IsTotalOrder}
 use Rattle.std.specs.List.{Contains, IsDistinct}

@@ -1,3 +1,4 @@
+-- What holds of the starts and of all neighbours holds of all that a run submits, and of its members.
 use Rattle.std.proofs.Common.{◌≡◌, ℕ, zero, suc, List, [], ◌∷◌, ◌++◌, sym, subst, arith}
 use Rattle.std.specs.Prelude.{All}
 use Rattle.std.proofs.lemmas.List.Elements.{All-push, All-tail, All-head}
@@ -13,7 +14,7 @@ use Rattle.pls_archive.specs.Reply.{point_weakly_dominates, members, in_order}
 use Rattle.pls_archive.specs.Run.{Run, submitting, spending, exploring, begun, ended, sequential_run}
 use Rattle.pls_archive.proofs.Histories.{submissions-with_update, submissions-with_member, submissions-with_snapshot}
 use Rattle.pls_archive.proofs.InOrder.{in_order-IsPermutation}
-use Rattle.pls_archive.proofs.Runs.{exploring-by_cases, exploring_all-keeps}
+use Rattle.pls_archive.proofs.RunInduction.{exploring-by_cases, exploring_all-keeps}
 
 -- What holds of the starts and of all neighbours holds of all that a run submits.
 module _

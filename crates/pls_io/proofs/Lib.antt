@@ -1,4 +1,5 @@
-pub mod Moves
+pub mod Transfers
 pub mod WordSteps
 pub mod WordExamples
-pub mod Runs
+pub mod LongestRuns
+pub mod Joins

@@ -91,6 +91,16 @@ words-run place (b ∷ (c ∷ run)) rest all some after =
     let later = words-run (place + 1) (c ∷ run) rest both.1 (omega arith) (subst (λ (n : ℕ). BeginsAfter n (words_from n (uncommented false rest))) e after) in
     words-word_byte place b ((c ∷ run) ++ rest) both.0 ∙ ap (joined place b) later ∙ joined-more place b (c ∷ run) _ ∙ ap (λ (n : ℕ). record { place = place; text = b ∷ (c ∷ run) } ∷ words_from n (uncommented false rest)) (sym e)
 
+-- a run of word bytes and a space behind it
+pub words-word :
+    (place : ℕ) (run : List ℕ) (b : ℕ) (rest : List ℕ) → list_all is_word_byte run ≡ true → 0 < length run
+    → (b == 35) ≡ false → is_word_byte b ≡ false
+    → words_from place (uncommented false (run ++ b ∷ rest))
+    ≡ record { place = place; text = run } ∷ words_from (place + length run + 1) (uncommented false rest)
+words-word place run b rest all some hash blank =
+    words-run place run (b ∷ rest) all some (next-after (place + length run) b rest blank)
+    ∙ ap (λ ws. record { place = place; text = run } ∷ ws) (words-space (place + length run) b rest hash blank)
+
 -- the same in a text: at a place past all words there is none
 words_at-end : (text : List ℕ) (at : ℕ) → length text ≤ at → words_at false text at ≡ []
 words_at-end text at h = ap (λ bs. words_from at (uncommented false bs)) (drop_all at text h)

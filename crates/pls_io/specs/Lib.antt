@@ -3,3 +3,4 @@ pub mod Refusals
 pub mod Memory
 pub mod Words
 pub mod WordRuns
+pub mod Lines

@@ -8,6 +8,7 @@
 #![tactic(auto)]
 
 mod attempt;
+mod line;
 mod mem_sink;
 mod mem_source;
 mod plan;
@@ -18,6 +19,7 @@ mod streams;
 mod words;
 mod write;
 
+pub use line::push_word;
 pub use mem_sink::MemSink;
 pub use mem_source::MemSource;
 pub use read::{ReadRefusal, read_all};
@@ -27,5 +29,7 @@ pub use streams::{Failed, Sink, Source};
 pub use words::{Tokens, Word};
 pub use write::{WriteRefusal, write_all};
 
+#[cfg(test)]
+mod adapter_tests;
 #[cfg(test)]
 mod tests;

@@ -1,5 +1,5 @@
 // A sink over memory, with planned failures.
-ghost use Rattle.std.specs.Prelude.{◌≡◌, [], OnErr, IfOk, IsErr, ◌↔◌, ◌<◌, ◌≤◌, length, min, Some};
+ghost use Rattle.std.specs.Prelude.{◌≡◌, [], OnOk, OnErr, IfOk, IsErr, ◌↔◌, ◌<◌, ◌≤◌, length, min, Some};
 ghost use Rattle.pls_io.specs.Streams.{Rose, Writes};
 ghost use Rattle.pls_io.specs.Memory.{took, sink_failed, CannotTake};
 
@@ -66,6 +66,7 @@ impl Sink for MemSink {
     fn write(&mut self, bytes: &[u8]) -> Result<usize, Failed>
         ensures count { self.old.faults ≤ self.new.faults }
         ensures cause { OnErr result (Rose self.old.faults self.new.faults) }
+        ensures steady { OnOk result (self.new.faults ≡ self.old.faults) }
         ensures kept { OnErr result (Some self.new.written ≡ Some self.old.written) }
         ensures writes { IfOk result (λ n. Writes n (Some self.old.written) bytes.now (Some self.new.written)) }
         ensures progress { IfOk result (λ n. 0 < length bytes.now → 0 < n) }

@@ -1,5 +1,5 @@
 // A source over memory, with planned failures.
-ghost use Rattle.std.specs.Prelude.{◌≡◌, [], OnErr, IfOk, IsErr, Contains, ◌↔◌, ◌≤◌, ◌++◌, length, min, take, drop, Some};
+ghost use Rattle.std.specs.Prelude.{◌≡◌, [], OnOk, OnErr, IfOk, IsErr, Contains, ◌↔◌, ◌≤◌, ◌++◌, length, min, take, drop, Some};
 ghost use Rattle.pls_io.specs.Streams.{Rose, Reads};
 ghost use Rattle.pls_io.specs.Memory.{gave, source_failed};
 
@@ -53,6 +53,7 @@ impl Source for MemSource {
     fn read(&mut self, buf: &mut [u8]) -> Result<usize, Failed>
         ensures count { self.old.faults ≤ self.new.faults }
         ensures cause { OnErr result (Rose self.old.faults self.new.faults) }
+        ensures steady { OnOk result (self.new.faults ≡ self.old.faults) }
         ensures kept { OnErr result (Some self.new.left ≡ Some self.old.left) }
         ensures reads { IfOk result (λ n. Reads n (Some self.old.left) buf.old (Some self.new.left) buf.new) }
 

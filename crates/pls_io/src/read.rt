@@ -1,5 +1,5 @@
 // All that a source has left.
-ghost use Rattle.std.specs.Prelude.{◌≡◌, ◌<◌, ◌≤◌, [], length, vec_len, IfOk, IsErrOf};
+ghost use Rattle.std.specs.Prelude.{◌≡◌, ◌⊎◌, ◌<◌, ◌≤◌, [], length, vec_len, IfOk, IsErrOf};
 ghost use Rattle.pls_io.specs.Streams.{Rose};
 ghost use Rattle.pls_io.specs.Refusals.{TakesSome, TakesAll, IsTooLong};
 ghost use Rattle.pls_io.specs.declared.read.ReadRefusal.TheVariants.{Memory};
@@ -7,7 +7,7 @@ ghost use Rattle.pls_io.specs.declared.read.ReadRefusal.TheVariants.{Memory};
 use crate::streams::{Failed, Source};
 use std::alloc::{AllocError, Global};
 
-// How many bytes are asked for at a time.
+// How many bytes are asked for at a time, at most.
 const PIECE: usize = 65_536;
 
 /// Why `read_all` has no answer.
@@ -29,7 +29,8 @@ impl From<AllocError> for ReadRefusal {
     }
 }
 
-/// Reads to the end of input, which may be `limit` bytes away and no more. After a refusal what was
+/// Reads to the end of input, which may be `limit` bytes away and no more, in pieces of at most
+/// 65,536 bytes. After a refusal what was
 /// read is gone, and the rest is left in the source.
 pub fn read_all<S: Source>(
     alloc: Global,
@@ -40,6 +41,7 @@ pub fn read_all<S: Source>(
 
     ensures count { S.faults source.old ≤ S.faults source.new }
     ensures read_fault { IsErrOf result ReadRefusal.ReadFault → Rose (S.faults source.old) (S.faults source.new) }
+    ensures steady { IsErrOf result ReadRefusal.ReadFault ⊎ (S.faults source.new ≡ S.faults source.old) }
     ensures too_long { IsErrOf result ReadRefusal.TooLong → IsTooLong limit (S.left source.old) }
 
     ensures rest { TakesSome (S.left source.old) (S.left source.new) }
@@ -63,11 +65,13 @@ fn read_pieces<S: Source>(
     mut all: Vec<u8>,
 ) -> Result<Vec<u8>, ReadRefusal>
     requires room { 0 < length piece.old }
+    requires small { length piece.old ≤ 65536 }
     requires empty { all.items ≡ [] }
 
     ensures whole { IfOk result (λ v. TakesAll limit (S.left source.old) v.items (S.left source.new)) }
     ensures count { S.faults source.old ≤ S.faults source.new }
     ensures read_fault { IsErrOf result ReadRefusal.ReadFault → Rose (S.faults source.old) (S.faults source.new) }
+    ensures steady { IsErrOf result ReadRefusal.ReadFault ⊎ (S.faults source.new ≡ S.faults source.old) }
     ensures too_long { IsErrOf result ReadRefusal.TooLong → IsTooLong limit (S.left source.old) }
     ensures rest { TakesSome (S.left source.old) (S.left source.new) }
 {

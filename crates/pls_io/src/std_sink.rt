@@ -52,7 +52,7 @@ impl<'a, R: Print> Sink for StdSink<'a, R> {
         ensures writes { IfOk result (λ n. Writes n untold bytes.now untold) }
 
         ensures progress { IfOk result (λ n. 0 < length bytes.now → 0 < n) }
-        ensures ok { OnOk result (self.new ≡ self.old) }
+        ensures steady { OnOk result (self.new ≡ self.old) }
         ensures failed { OnErr result (self.new ≡ counted self.old) }
     {
         let call = Writing {

@@ -43,9 +43,9 @@ impl<R: Input> Source for StdSource<R> {
     fn read(&mut self, buf: &mut [u8]) -> Result<usize, Failed>
         ensures count { self.old ≤ self.new }
         ensures cause { OnErr result (Rose self.old self.new) }
+        ensures steady { OnOk result (self.new ≡ self.old) }
         ensures reads { IfOk result (λ n. Reads n untold buf.old untold buf.new) }
 
-        ensures ok { OnOk result (self.new ≡ self.old) }
         ensures failed { OnErr result (self.new ≡ counted self.old) }
     {
         let call = Reading {

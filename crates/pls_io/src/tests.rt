@@ -1,12 +1,8 @@
-// Each call once, over streams in memory and over runtimes that fail.
-ghost use Rattle.std.specs.Prelude.{◌≤◌, length, IfOk};
+// Each call once, over streams in memory.
+ghost use Rattle.std.specs.Prelude.{◌≡◌, ◌≤◌, ℕ, OnOk, OnErr, IfOk};
+ghost use Rattle.pls_io.specs.Streams.{untold, Rose, Reads};
 
 use super::*;
-use std::alloc::Allocator;
-use std::cell::Cell;
-use std::fmt::Display;
-use std::io;
-use std::io::{BufRead, Error, ErrorKind, Input, Lines, Read};
 use std::test::Fail;
 
 const TWO_ITEMS: &[u8] = b"pls1 knapsack 2 2 1\n10\n3 1\n1 3\n2 3\n";
@@ -47,6 +43,45 @@ fn reads_more_than_a_piece(rt: HostRuntime) -> Result<(), Fail> {
     let mut source = MemSource::new(text, Vec::new(alloc));
     let all = read_all(alloc, &mut source, 200_000).ok().ok_or("refused")?;
     assert_eq!(rt; all.len(), 200_000);
+    Ok(())
+}
+
+// A source that notes how long a buffer it was handed, and gives three buffers full.
+#[derive(Drop)]
+struct Measuring {
+    widest: usize,
+    calls: u32,
+}
+
+impl Source for Measuring {
+    ghost faults = { λ _. 0 };
+
+    ghost left = { λ _. untold };
+
+    fn read(&mut self, buf: &mut [u8]) -> Result<usize, Failed>
+        ensures count { 0 ≤ 0 }
+        ensures cause { OnErr result (Rose 0 0) }
+        ensures steady { OnOk result (◌≡◌ {A = ℕ} 0 0) }
+        ensures kept { OnErr result (untold ≡ untold) }
+        ensures reads { IfOk result (λ n. Reads n untold buf.old untold buf.new) }
+    {
+        self.widest = self.widest.max(buf.len());
+        self.calls = self.calls.saturating_add(1);
+        Ok(if self.calls <= 3 { buf.len() } else { 0 })
+    }
+}
+
+#[test]
+fn reads_in_pieces_of_a_bounded_length(rt: HostRuntime) -> Result<(), Fail> {
+    let mut source = Measuring {
+        widest: 0,
+        calls: 0,
+    };
+    let all = read_all(rt.alloc(), &mut source, 1_000_000)
+        .ok()
+        .ok_or("refused")?;
+    assert_eq!(rt; (source.widest, source.calls), (65_536, 4));
+    assert_eq!(rt; all.len(), 3 * 65_536);
     Ok(())
 }
 
@@ -106,107 +141,4 @@ fn finds_words(rt: HostRuntime) {
         assert_eq!(rt; tokens.next_word(), None);
         assert_eq!(rt; tokens.next_word(), None);
     }
-}
-
-// A runtime whose calls are interrupted so many times, and then move one byte, or none.
-#[derive(Drop)]
-struct Busy {
-    interruptions: Cell<u32>,
-    moves: usize,
-}
-
-impl Busy {
-    fn new(interruptions: u32, moves: usize) -> Self {
-        Busy {
-            interruptions: Cell::new(interruptions),
-            moves,
-        }
-    }
-
-    fn call(&self, most: usize) -> io::Result<usize>
-        ensures { IfOk result (λ n. n ≤ most) }
-    {
-        let left = self.interruptions.get();
-        if left > 0 {
-            self.interruptions.set(left - 1);
-            return Err(Error::from(ErrorKind::Interrupted));
-        }
-        Ok(self.moves.min(most))
-    }
-}
-
-impl Read for Busy {
-    fn read(&mut self, buf: &mut [u8]) -> io::Result<usize> {
-        self.call(buf.len())
-    }
-}
-
-impl BufRead for Busy {
-    fn fill_buf(&mut self) -> io::Result<&[u8]> {
-        Ok(&[])
-    }
-
-    fn consume(&mut self, _amount: usize) {}
-}
-
-impl Input for Busy {
-    type Reader = Busy;
-
-    fn read_line<A: Allocator + Clone>(&self, _buf: &mut String<A>) -> io::Result<usize> {
-        Err(Error::from(ErrorKind::Unsupported))
-    }
-
-    fn lines<A: Allocator>(&self, alloc: A) -> Lines<Busy, A> {
-        self.reader().lines(alloc)
-    }
-
-    fn reader(&self) -> Busy {
-        Busy::new(self.interruptions.get(), self.moves)
-    }
-}
-
-impl Print for Busy {
-    fn print<D: Display + Drop>(&self, _value: D) -> io::Result<()> {
-        Err(Error::from(ErrorKind::Unsupported))
-    }
-
-    fn println<D: Display + Drop>(&self, _value: D) -> io::Result<()> {
-        Err(Error::from(ErrorKind::Unsupported))
-    }
-
-    fn write_all(&self, _bytes: &[u8]) -> io::Result<()> {
-        Err(Error::from(ErrorKind::Unsupported))
-    }
-
-    fn write_some(&self, bytes: &[u8]) -> io::Result<usize>
-        ensures { IfOk result (λ n. n ≤ length bytes.now) }
-    {
-        self.call(bytes.len())
-    }
-}
-
-#[test]
-fn a_read_is_made_again_at_most_a_thousand_times(rt: HostRuntime) {
-    for (interruptions, want) in [(0, Ok(1)), (1_000, Ok(1)), (1_001, Err(Failed))] {
-        let mut source = StdSource::new(&Busy::new(interruptions, 1));
-        assert_eq!(rt; source.read(&mut [0; 8]), want, "{interruptions}");
-    }
-}
-
-#[test]
-fn a_write_is_made_again_at_most_a_thousand_times(rt: HostRuntime) {
-    for (interruptions, want) in [(0, Ok(1)), (1_000, Ok(1)), (1_001, Err(Failed))] {
-        let busy = Busy::new(interruptions, 1);
-        let mut sink = StdSink::new(&busy);
-        assert_eq!(rt; sink.write(b"front"), want, "{interruptions}");
-    }
-}
-
-#[test]
-fn a_write_that_takes_nothing_is_a_fault(rt: HostRuntime) {
-    let full = Busy::new(0, 0);
-    let mut sink = StdSink::new(&full);
-    assert_eq!(rt; sink.write(b""), Ok(0));
-    assert_eq!(rt; sink.write(b"front"), Err(Failed));
-    assert_eq!(rt; StdSink::new(&rt).write(b""), Ok(0));
 }

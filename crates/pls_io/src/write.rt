@@ -1,5 +1,5 @@
 // All of a piece into a sink.
-ghost use Rattle.std.specs.Prelude.{◌≤◌, length, OnOk, OnErr, IfErr};
+ghost use Rattle.std.specs.Prelude.{◌≡◌, ◌≤◌, length, OnOk, OnErr, IfErr};
 ghost use Rattle.pls_io.specs.Streams.{Rose, Writes};
 ghost use Rattle.pls_io.specs.Refusals.{WritesPrefix};
 
@@ -20,6 +20,7 @@ pub fn write_all<K: Sink>(sink: &mut K, bytes: &[u8]) -> Result<(), WriteRefusal
 
     ensures count { K.faults sink.old ≤ K.faults sink.new }
     ensures cause { OnErr result (Rose (K.faults sink.old) (K.faults sink.new)) }
+    ensures steady { OnOk result (K.faults sink.new ≡ K.faults sink.old) }
 {
     let mut done = 0;
     while done < bytes.len() {

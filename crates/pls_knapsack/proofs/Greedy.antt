@@ -1,24 +1,18 @@
-use Rattle.std.proofs.Common.{◌≡◌, ℕ, ◌+◌, ◌-◌, ◌*◌, ◌/◌, ◌%◌, ◌^◌, ◌<◌, ◌≤◌, ◌==◌, true, false, if◌then◌else◌, nat_lt, List, length, slice_index, drop, replicate, suc, zero, add-one, refl, ap, sym, ◌∙◌, inl, inr, arith, [], ◌∷◌}
+-- The greedy fill, one item of its order after another.
+use Rattle.std.proofs.Common.{◌≡◌, ℕ, ◌+◌, ◌-◌, ◌*◌, ◌/◌, ◌%◌, ◌^◌, ◌<◌, ◌≤◌, ◌==◌, true, false, if◌then◌else◌, nat_lt, List, length, slice_index, drop, replicate, suc, zero, add-one, refl, ap, sym, ◌∙◌, arith, [], ◌∷◌}
 use Rattle.std.specs.List.{range_with_len, list_all}
 use Rattle.std.specs.Int.{bit_at}
-use Rattle.std.proofs.lemmas.Bool.{cases_lt, lt-ltb, le-leb, cond_both}
-use Rattle.std.proofs.lemmas.List.{get_or_past, get_or-replicate, length-replicate, drop_more, drop_all}
+use Rattle.std.proofs.lemmas.Bool.{lt-ltb, le-leb, cond_both}
+use Rattle.std.proofs.lemmas.List.{length-replicate, drop_more, drop_all}
 use Rattle.std.proofs.lemmas.Nat.{pow_pos}
 use Rattle.std.proofs.lemmas.Nat.Bits.{bit_at-zero}
 use Rattle.pls_vectors.specs.Solution.{Solution, chosen, with_item, no_items}
 use Rattle.pls_knapsack.specs.declared.knapsack.tally.Tally.{Tally}
-use Rattle.pls_knapsack.specs.Instance.{Instance, profit, weight, sum_of_chosen, load, fits, no_other_bit, feasible, filled, greedy}
+use Rattle.pls_knapsack.specs.Instance.{Instance, profit, weight, sum_of_chosen, fits, no_other_bit, feasible, filled, greedy}
 use Rattle.pls_knapsack.specs.Walk.{IsTally}
 use Rattle.pls_knapsack.proofs.Ranges.{list_all-range}
+use Rattle.pls_knapsack.proofs.Tables.{zeros-at}
 use Rattle.pls_knapsack.proofs.Tallies.{feasible-fits, sum_of_chosen-no}
-
--- zeros at every place
-zeros-at : (m i : ℕ) → slice_index (replicate m 0) i ≡ 0
-zeros-at m i =
-    elim (cases_lt i m) [
-      | inl below ↦ get_or-replicate m i 0 0 below
-      | inr past ↦ get_or_past (replicate m 0) i 0 (rw length-replicate past)
-    ]
 
 -- nothing is chosen at first
 pub chosen-no_items : (n i : ℕ) → chosen (no_items n) i ≡ false
@@ -47,19 +41,16 @@ feasible-no_items k =
 
 -- the tally of nothing
 pub IsTally-no_items :
-    (k : Instance) (t : Tally) → t.sol ≡ no_items k.items → t.values ≡ replicate 4 0 → t.loads ≡ replicate 8 0 → IsTally k t
-IsTally-no_items k t sol values loads =
+    (k : Instance) (t : Tally) → t.sol ≡ no_items k.items → t.values ≡ replicate 4 0
+    → ((row : ℕ) → slice_index t.rooms row ≡ slice_index k.capacities row) → IsTally k t
+IsTally-no_items k t sol values rooms =
+    let none = λ (amount : ℕ → ℕ).
+    ap (λ (s : Solution). sum_of_chosen k.items s amount) sol ∙ sum_of_chosen-no_items k.items k.items amount in
     record {
       stored = ap (λ (s : Solution). length s.words) sol ∙ length-replicate {A = ℕ} 32 0;
       feasible = ap (λ (s : Solution). feasible k s) sol ∙ feasible-no_items k;
-      values = λ row _.
-          ap (λ sums. slice_index sums row) values
-          ∙ (zeros-at 4 row
-          ∙ (sym (sum_of_chosen-no_items k.items k.items (profit k row)) ∙ ap (λ (s : Solution). sum_of_chosen k.items s (profit k row)) (sym sol)));
-      loads = λ row _.
-          ap (λ sums. slice_index sums row) loads
-          ∙ (zeros-at 8 row
-          ∙ (sym (sum_of_chosen-no_items k.items k.items (weight k row)) ∙ ap (λ (s : Solution). load k s row) (sym sol)));
+      values = λ row _. ap (λ sums. slice_index sums row) values ∙ (zeros-at 4 row ∙ sym (none (profit k row)));
+      rooms = λ row _. omega (arith, rooms row, none (weight k row));
     }
 
 pub filled-start : (k : Instance) (s : Solution) (order : List ℕ) → s ≡ no_items k.items → filled k s order ≡ greedy k order

@@ -1,5 +1,7 @@
 pub mod Ranges
 pub mod Sums
+pub mod Stored
+pub mod Tables
 pub mod Tallies
 pub mod Vectors
 pub mod Points

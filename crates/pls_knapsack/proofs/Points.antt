@@ -1,3 +1,4 @@
+-- The neighbours from one item on, and from the next one on.
 use Rattle.std.proofs.Common.{◌≡◌, ℕ, ◌+◌, ◌<◌, ◌≤◌, ℤ, Bool, true, false, cond, not, List, [], ◌∷◌, ◌++◌, Option, Some, None, is_some, IfNone, option_to_list, map, drop, refl, ap, sym, ◌∙◌}
 use Rattle.std.specs.List.{range_with_len, filter, flat_map}
 use Rattle.std.proofs.lemmas.List.{append_assoc}

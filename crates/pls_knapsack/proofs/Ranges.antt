@@ -1,3 +1,4 @@
+-- Sums and tests over a range of numbers, one number further.
 use Rattle.std.proofs.Common.{◌≡◌, ℕ, ◌+◌, ◌*◌, ◌<◌, ◌≤◌, Bool, true, false, ◌&&◌, [], ◌∷◌, ◌++◌, length, map, drop, suc, zero, zero-add, add-one, refl, ap, sym, ◌∙◌, inl, inr, arith}
 use Rattle.std.specs.List.{range_with_len, sum_by, list_all}
 use Rattle.std.proofs.lemmas.Bool.{cases_eq, and_parts, and_from}
@@ -7,7 +8,7 @@ use Rattle.std.proofs.lemmas.List.Sums.{sum_by_push}
 use Rattle.std.proofs.lemmas.List.Folds.{list_all-append}
 
 -- one more number at the end of a range
-range_with_len-suc : (a n b : ℕ) → a + n ≡ b → range_with_len a (suc n) ≡ range_with_len a n ++ b ∷ []
+pub range_with_len-suc : (a n b : ℕ) → a + n ≡ b → range_with_len a (suc n) ≡ range_with_len a n ++ b ∷ []
 range_with_len-suc a zero b e = ap (λ x. x ∷ []) (omega arith)
 range_with_len-suc a (suc n) b e = ap (λ xs. a ∷ xs) (range_with_len-suc (a + 1) n b (omega arith))
 
@@ -58,6 +59,20 @@ list_all-range_same p q (suc n) each =
     let last = each n (omega arith) in
     let both : (list_all p (range_with_len 0 n) && p n) ≡ (list_all q (range_with_len 0 n) && q n) = cc in
     list_all-range_suc p n ∙ (both ∙ sym (list_all-range_suc q n))
+
+-- a longer range, of which the rest passes
+pub list_all-range_longer :
+    (p : ℕ → Bool) (m n : ℕ) → m ≤ n → ((i : ℕ) → m ≤ i → i < n → p i ≡ true)
+    → list_all p (range_with_len 0 n) ≡ list_all p (range_with_len 0 m)
+list_all-range_longer p m zero short rest = let none : m ≡ 0 = omega arith in ap (λ n. list_all p (range_with_len 0 n)) (sym none)
+list_all-range_longer p m (suc n) short rest =
+    elim (cases_eq m (suc n)) [
+      | inl same ↦ ap (λ n. list_all p (range_with_len 0 n)) (sym same)
+      | inr other ↦
+          list_all-range_suc p n
+          ∙ (ap (λ b. list_all p (range_with_len 0 n) && b) (rest n (omega arith) (omega arith))
+          ∙ (and-true _ ∙ list_all-range_longer p m n (omega arith) (λ i past below. rest i past (omega arith))))
+    ]
 
 pub sum_by-range_same :
     (f g : ℕ → ℕ) (n : ℕ) → ((i : ℕ) → i < n → f i ≡ g i) → sum_by f (range_with_len 0 n) ≡ sum_by g (range_with_len 0 n)

@@ -1,3 +1,4 @@
+-- How many parts a value has.
 use Rattle.std.proofs.Common.{◌≡◌, length}
 use Rattle.std.proofs.lemmas.List.FromFn.{length-map-range_with_len}
 use Rattle.pls_vectors.specs.Solution.{Solution}

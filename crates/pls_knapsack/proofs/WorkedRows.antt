@@ -1,3 +1,4 @@
+-- The neighbours of small choices, computed.
 use Rattle.std.proofs.Common.{◌≡◌, ℕ, pos, [], ◌∷◌, replicate, refl}
 use Rattle.pls_vectors.specs.Solution.{Solution}
 use Rattle.pls_knapsack.specs.Instance.{Instance, value, fits, no_other_bit, feasible, filled, greedy}

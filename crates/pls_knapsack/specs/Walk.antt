@@ -1,4 +1,4 @@
-use Rattle.std.specs.Prelude.{◌≡◌, ℕ, ◌<◌, ℤ, true, false, not, List, ◌++◌, Option, Some, None, map, drop, length, slice_index, if◌then◌else◌}
+use Rattle.std.specs.Prelude.{◌≡◌, ℕ, ◌+◌, ◌<◌, ℤ, true, false, not, List, ◌++◌, Option, Some, None, map, drop, length, slice_index, if◌then◌else◌}
 use Rattle.std.specs.List.{filter, flat_map}
 use Rattle.pls_vectors.specs.Solution.{Solution, chosen, with_item}
 use Rattle.pls_knapsack.specs.declared.knapsack.tally.Tally.{Tally}
@@ -6,12 +6,12 @@ use Rattle.pls_knapsack.specs.declared.knapsack.walk.Walk.{Walk}
 use Rattle.pls_knapsack.specs.Instance.{Instance, items_of, profit, sum_chosen, load, feasible}
 use Rattle.pls_knapsack.specs.Neighbours.{flipped, exchanges_of, point, points}
 
--- a feasible choice with the sums of its profits and weights in each row
+-- a feasible choice with the sum of its profits in each row, and with what its weights leave of each capacity
 pub record IsTally (k : Instance) (t : Tally) : Type 0 where
   pub stored : length t.sol.words ≡ 32
   pub feasible : feasible k t.sol ≡ true
-  pub values : (row : ℕ) → row < k.objectives → slice_index t.values row ≡ sum_chosen k t.sol (profit k row)
-  pub loads : (row : ℕ) → row < k.rules → slice_index t.loads row ≡ load k t.sol row
+  pub values : (row : ℕ) → row < 4 → slice_index t.values row ≡ sum_chosen k t.sol (profit k row)
+  pub rooms : (row : ℕ) → row < 8 → slice_index t.rooms row + load k t.sol row ≡ slice_index k.capacities row
 
 -- the choice as a point, where it is feasible
 abbrev pub point_if_feasible : Instance → Solution → Option (List ℤ × Solution)
@@ -22,6 +22,11 @@ pub record IsWalkOf (k : Instance) (w : Walk) : Type 0 where
   pub start : IsTally k w.start
   pub reduced : IsTally k w.reduced
   pub smaller : (item : ℕ) → chosen w.start.sol item ≡ false → chosen w.reduced.sol item ≡ false
+  pub item_in : w.item < k.items
+
+-- the neighbour that a walk gave last
+abbrev pub current : Walk → Solution
+current w = flipped (if w.is_flip then w.start.sol else w.reduced.sol) w.item
 
 -- the flips that a walk has still to try, in order
 abbrev pub flips_left : Instance → Walk → List Solution

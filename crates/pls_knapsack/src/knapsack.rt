@@ -1,13 +1,15 @@
-ghost use Rattle.std.specs.Prelude.{◌≡◌, ◌+◌, ◌*◌, ◌<◌, ◌≤◌, IfOk, slice_index};
+ghost use Rattle.std.specs.Prelude.{◌≡◌, ℕ, ◌+◌, ◌*◌, ◌<◌, ◌≤◌, IfOk, slice_index};
 ghost use Rattle.pls_knapsack.specs.Instance.{instance_from, IsWithinLimits, profit, weight};
 
+mod amounts;
 mod choices;
-mod rows;
+mod table;
 mod tally;
 #[cfg(test)]
 mod tests;
 mod walk;
 
+use amounts::{Amounts, WEIGHT_ROWS};
 use std::alloc::{AllocError, Global};
 use std::marker::Model;
 pub use walk::Walk;
@@ -21,36 +23,26 @@ pub struct Knapsack {
     items: u16,
     objectives: u8,
     rules: u8,
-    profits: Vec<u32>,
-    capacities: Vec<u32>,
-    weights: Vec<u32>,
+    capacities: [u32; WEIGHT_ROWS],
+    /// What each item has in each row.
+    table: Vec<Amounts>,
 }
 
 impl Model for Knapsack {
-    ghost use Rattle.pls_knapsack.specs.Instance.{Instance, IsWithinLimits};
+    ghost use Rattle.pls_knapsack.specs.Instance.{Instance};
 
     ghost Value = { Instance };
 
-    ghost view = { λ k. record {
-      items = k.items;
-      objectives = k.objectives;
-      rules = k.rules;
-      profits = k.profits.items;
-      capacities = k.capacities.items;
-      weights = k.weights.items;
-    } };
+    ghost use Rattle.pls_knapsack.specs.Stored.{instance_in, IsStored};
 
-    ghost invariant = { λ k. IsWithinLimits (record {
-      items = k.items;
-      objectives = k.objectives;
-      rules = k.rules;
-      profits = k.profits.items;
-      capacities = k.capacities.items;
-      weights = k.weights.items;
-    }) };
+    ghost view = { instance_in };
+
+    ghost invariant = { IsStored };
 }
 
 impl Knapsack {
+    ghost use Rattle.pls_knapsack.specs.Table.{IsItem};
+
     /// The instance with these profits, capacities and weights, row by row.
     pub fn new(
         alloc: Global,
@@ -64,16 +56,14 @@ impl Knapsack {
     {
         let objectives = (profits.len() / items as usize) as u8;
         let rules = capacities.len() as u8;
-        let profits = Vec::from_slice(alloc, profits)?;
-        let capacities = Vec::from_slice(alloc, capacities)?;
-        let weights = Vec::from_slice(alloc, weights)?;
+        let capacities = table::padded(capacities);
+        let table = table::table_of(alloc, items, profits, weights)?;
         Ok(Knapsack {
             items,
             objectives,
             rules,
-            profits,
             capacities,
-            weights,
+            table,
         })
     }
 
@@ -107,7 +97,7 @@ impl Knapsack {
         requires item_in { item < self.now.items }
         ensures { result ≡ profit self.now row item }
     {
-        rows::amount(&self.profits, self.items, row, item)
+        self.amounts(item).profits[row as usize]
     }
 
     /// The capacity of a weight row.
@@ -115,7 +105,7 @@ impl Knapsack {
         requires { row < self.now.rules }
         ensures { result ≡ slice_index self.now.capacities row }
     {
-        self.capacities[row as usize]
+        self.capacities()[row as usize]
     }
 
     /// The weight of an item in a weight row.
@@ -124,6 +114,23 @@ impl Knapsack {
         requires item_in { item < self.now.items }
         ensures { result ≡ weight self.now row item }
     {
-        rows::amount(&self.weights, self.items, row, item)
+        self.amounts(item).weights[row as usize]
+    }
+
+    /// What an item has in each row.
+    fn amounts(&self, item: u16) -> &Amounts
+        requires { item < self.now.items }
+        ensures item { IsItem self.now item result.now }
+        ensures limits { IsWithinLimits self.now }
+    {
+        &self.table[item as usize]
+    }
+
+    /// The capacities, and 0 in each weight row that the instance does not have.
+    fn capacities(&self) -> &[u32; WEIGHT_ROWS]
+        ensures value { (row : ℕ) → slice_index result.now row ≡ slice_index self.now.capacities row }
+        ensures limits { IsWithinLimits self.now }
+    {
+        &self.capacities
     }
 }

@@ -1,75 +1,21 @@
--- Pieces of text separated by spaces, written one after another.
-use Rattle.std.proofs.Common.{◌≡◌, ℕ, ◌+◌, Bool, List, [], ◌∷◌, ◌++◌, cond, true, false, refl, sym, ap, ◌∙◌, append_assoc, append-nil, map, zero-add}
+-- The chosen items, written one after another.
+use Rattle.std.proofs.Common.{◌≡◌, ℕ, ◌+◌, Bool, List, [], ◌∷◌, ◌++◌, cond, true, false, refl, sym, ap, ◌∙◌, append-nil}
 use Rattle.std.proofs.lemmas.Bool.{false≢true}
 use Rattle.std.proofs.lemmas.List.Elements.{filter-append}
-use Rattle.std.proofs.lemmas.List.FromFn.{map-range_with_len_more}
-use Rattle.std.proofs.lemmas.Grind.{flat_map-append}
 use Rattle.std.specs.Fmt.{decimal}
+use Rattle.pls_io.proofs.Joins.{is_some_list, joined, Joins, Joins-push}
+use Rattle.pls_problem.proofs.NumberRanges.{range_with_len-more}
+use Rattle.pls_io.specs.Lines.{gap}
 use Rattle.pls_vectors.specs.Solution.{Solution, chosen}
-use Rattle.pls_top.specs.Report.{gap, items_text, choice_text}
-use Rattle.std.specs.List.{join_by, flat_map, filter, range_with_len}
-
-abbrev pub is_some_list : {X : Type 0} → List X → Bool
-is_some_list [] = false
-is_some_list (x ∷ xs) = true
-
-module _ {X : Type 0} (f : X → List ℕ) where
-  abbrev pub joined : List X → List ℕ
-  joined xs = join_by f (32 ∷ []) xs
-
-  pub joined-push : (xs : List X) (y : X) → joined (xs ++ y ∷ []) ≡ joined xs ++ (gap (is_some_list xs) ++ f y)
-  joined-push [] y = append-nil (f y)
-  joined-push (x ∷ xs) y =
-      ap (λ (t : List ℕ). f x ++ t)
-      (flat_map-append (λ z. 32 ∷ f z) xs (y ∷ [])
-      ∙ ap (λ (t : List ℕ). flat_map (λ z. 32 ∷ f z) xs ++ (32 ∷ t)) (append-nil (f y)))
-      ∙ sym (append_assoc (f x) (flat_map (λ z. 32 ∷ f z) xs) (32 ∷ f y))
-
-  -- a piece behind those that a text ends with
-  pub joined-written :
-      (text before : List ℕ) (xs : List X) (y : X) → text ≡ before ++ joined xs
-      → text ++ (gap (is_some_list xs) ++ f y) ≡ before ++ joined (xs ++ y ∷ [])
-  joined-written text before xs y written =
-      ap (λ (t : List ℕ). t ++ (gap (is_some_list xs) ++ f y)) written
-      ∙ (append_assoc before (joined xs) (gap (is_some_list xs) ++ f y)
-      ∙ ap (λ (t : List ℕ). before ++ t) (sym (joined-push xs y)))
-
-pub is_some_list-push : {X : Type 0} (xs : List X) (y : X) → is_some_list (xs ++ y ∷ []) ≡ true
-is_some_list-push [] y = refl
-is_some_list-push (x ∷ xs) y = refl
-
--- a text is what it was before with these pieces joined behind it
-pub record Joins {X : Type 0} (f : X → List ℕ) (before : List ℕ) (xs : List X) (text : List ℕ) (any : Bool) : Type 0 where
-  pub written : text ≡ before ++ joined f xs
-  pub some : any ≡ is_some_list xs
-
--- one more piece
-pub Joins-push :
-    {X : Type 0} (f : X → List ℕ) (before : List ℕ) (xs : List X) (text : List ℕ) (any : Bool) → Joins f before xs text any
-    → (y : X) (text' : List ℕ) → text' ≡ text ++ (gap any ++ f y) → Joins f before (xs ++ y ∷ []) text' true
-Joins-push f before xs text any joins y text' more = record {
-  written =
-      more
-      ∙ (ap (λ (b : Bool). text ++ (gap b ++ f y)) joins.some
-      ∙ joined-written f text before xs y joins.written);
-  some = sym (is_some_list-push xs y);
-}
-
-map_same : (xs : List ℕ) → xs ≡ map (λ (i : ℕ). i) xs
-map_same [] = refl
-map_same (x ∷ xs) = ap (λ (t : List ℕ). x ∷ t) (map_same xs)
-
-pub range_with_len-more : (a n : ℕ) → range_with_len a (n + 1) ≡ range_with_len a n ++ (a + n) ∷ []
-range_with_len-more a n =
-    map_same (range_with_len a (n + 1)) ∙ (map-range_with_len_more (λ (i : ℕ). i) a n (a + n) refl
-    ∙ ap (λ (t : List ℕ). t ++ (a + n) ∷ []) (sym (map_same (range_with_len a n))))
+use Rattle.pls_top.specs.Report.{items_text, choice_text}
+use Rattle.std.specs.List.{filter, range_with_len}
 
 -- the items that pass a test, with one more item
 pub filter-range-more :
     (p : ℕ → Bool) (n : ℕ) (b : Bool) → b ≡ p n
     → filter p (range_with_len 0 (n + 1)) ≡ filter p (range_with_len 0 n) ++ cond b (n ∷ []) []
 filter-range-more p n b same =
-    ap (filter p) (range_with_len-more 0 n ∙ ap (λ (m : ℕ). range_with_len 0 n ++ m ∷ []) (zero-add n))
+    ap (filter p) (range_with_len-more n)
     ∙ (filter-append p (range_with_len 0 n) (n ∷ [])
     ∙ ap (λ (c : Bool). filter p (range_with_len 0 n) ++ cond c (n ∷ []) []) (sym same))
 

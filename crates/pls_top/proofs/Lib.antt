@@ -1,13 +1,10 @@
 mod Worked
-mod Pieces
 mod Joined
 mod Writing
-mod Orders
 mod Endings
+mod Serving
+mod KnapsackPoints
 mod Fronts
-mod ReadingDigits
-mod ReadingSteps
-mod ReadingSized
 mod SearchValues
 mod SearchRuns
 mod SearchTasks

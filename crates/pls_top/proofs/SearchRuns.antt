@@ -13,8 +13,9 @@ use Rattle.pls_archive.specs.Reply.{point_weakly_dominates, members, some_weakly
 use Rattle.pls_archive.specs.Run.{Run, spending}
 use Rattle.pls_archive.proofs.Histories.{submissions-with_update, accepted-with_added, accepted-with_refused}
 use Rattle.pls_archive.proofs.Members.{point_weakly_dominates-IsPreorder, update-covered, update-new}
-use Rattle.pls_knapsack.specs.Instance.{Instance, feasible}
-use Rattle.pls_knapsack.specs.Neighbours.{neighbours}
+use Rattle.pls_problem.specs.declared.instance.Instance.{Instance}
+use Rattle.pls_problem.specs.Instance.{feasible}
+use Rattle.pls_problem.specs.Instance.{neighbours}
 use Rattle.pls_top.specs.Sequential.{neighbour_points}
 use Rattle.pls_top.specs.Search.{HasFeasible, Submits, Follows, IsAt, Explores}
 use Rattle.pls_top.specs.declared.search.SearchState.{SearchState}

@@ -7,7 +7,7 @@ use Rattle.pls_archive.specs.declared.call.Entry.{Entry}
 use Rattle.pls_archive.specs.History.{accepted}
 use Rattle.pls_archive.specs.Reply.{nondominated}
 use Rattle.pls_archive.specs.Run.{Run, unless_cut, for_point, exploring, exploring_all}
-use Rattle.pls_knapsack.specs.Instance.{Instance}
+use Rattle.pls_problem.specs.declared.instance.Instance.{Instance}
 use Rattle.pls_top.specs.Sequential.{neighbour_points}
 use Rattle.pls_top.specs.Search.{Follows, IsAt, run_at, Visits, ExploresAll}
 use Rattle.pls_top.specs.declared.search.SearchState.{SearchState}

@@ -1,160 +1,138 @@
--- The definitions on small texts, computed.
-use Rattle.std.specs.Prelude.{◌≡◌, ℕ, true, List, [], ◌∷◌, ◌++◌, take, length, Ok, Err, codes, replicate}
+-- The runs and the texts of small instances, computed.
+use Rattle.std.specs.Prelude.{◌≡◌, ℕ, true, List, [], ◌∷◌, length, None, codes}
 use Rattle.std.specs.Fmt.{digits}
 use Rattle.std.proofs.Common.{refl}
-use Rattle.pls_vectors.specs.Solution.{no_items, with_item}
-use Rattle.pls_knapsack.specs.Instance.{Instance, value, fits, no_other_bit, feasible, filled, greedy}
+use Rattle.pls_vectors.specs.Solution.{Solution, no_items, with_item}
+use Rattle.pls_knapsack.specs.Instance.{value, fits, no_other_bit, feasible, filled}
 use Rattle.pls_knapsack.specs.Neighbours.{points, neighbours}
-use Rattle.pls_top.specs.declared.reader.BadInstance.TheVariants.{Head, Short, Word, Range, Extra, Shape}
-use Rattle.pls_top.specs.Reading.{instance}
+use Rattle.pls_problem.specs.declared.instance.Instance.{Instance}
+use Rattle.pls_problem.specs.declared.instance.Instance.TheVariants.{Knapsack}
+use Rattle.pls_problem.specs.declared.reader.BadInstance.TheVariants.{Short, Range}
+use Rattle.pls_problem.specs.Instance.{value as value_of, neighbours as neighbours_of}
+use Rattle.pls_top.specs.declared.status.Status.TheVariants.{Usage}
 use Rattle.pls_top.specs.Sequential.{run_from}
-use Rattle.pls_top.specs.Report.{run_report, report, front_of, counts_of, end_of}
-use Rattle.pls_top.specs.Answer.{text_of}
+use Rattle.pls_top.specs.Report.{report, demo_report, front_of, counts_of, end_of}
+use Rattle.pls_top.specs.Due.{due, instance_line}
+
+-- the text of the sequential run from these starts
+abbrev found : Instance → List Solution → ℕ → List ℕ
+found i sols moves =
+    let run = run_from i sols moves in report i (front_of run) (counts_of (length sols) run) (end_of run)
+
+-- the same in three lines
+abbrev shown : Instance → List Solution → ℕ → List ℕ
+shown i sols moves =
+    let run = run_from i sols moves in demo_report i 9 (front_of run) (counts_of (length sols) run) (end_of run)
 
 -- two items that fit together
-abbrev two_items : List ℕ
-two_items = codes "pls1 knapsack 2 2 1\n10\n3 1\n1 3\n2 3\n"
-
 abbrev two : Instance
-two =
-    record {
-      items = 2;
-      objectives = 2;
-      rules = 1;
-      capacities = 10 ∷ [];
-      profits = 3 ∷ 1 ∷ 1 ∷ 3 ∷ [];
-      weights = 2 ∷ 3 ∷ [];
-    }
+two = Knapsack (record {
+  items = 2;
+  objectives = 2;
+  rules = 1;
+  capacities = 10 ∷ [];
+  profits = 3 ∷ 1 ∷ 1 ∷ 3 ∷ [];
+  weights = 2 ∷ 3 ∷ [];
+})
 
-abbrev two_report : List ℕ
-two_report = codes "front 1 knapsack 2\n4 4 : 0 1\nend closed explored 1 evaluated 2 accepted 1\n"
-
-two_length : length two_items ≡ 35
-two_length = refl
-
-two_read : instance two_items ≡ Ok two
-two_read = refl
-
-two_found : text_of (instance two_items) ≡ two_report
-unfolding text_of digits value fits no_other_bit feasible filled greedy points neighbours
-two_found = refl
+abbrev both : Solution
+both = with_item (with_item (no_items 2) 0 true) 1 true
 
 -- two moves are just enough: no exploration is cut short
-two_moves : run_report two 2 ≡ two_report
-unfolding text_of digits value fits no_other_bit feasible filled greedy points neighbours
+two_moves : found two (both ∷ []) 2 ≡ codes "front 1 knapsack 2\n4 4 : 0 1\nend closed explored 1 evaluated 2 accepted 1\n"
+unfolding digits value fits no_other_bit feasible filled points neighbours value_of neighbours_of
 two_moves = refl
 
-no_moves : run_report two 0 ≡ codes "front 1 knapsack 2\n4 4 : 0 1\nend stopped explored 0 evaluated 0 accepted 1\n"
-unfolding text_of digits value fits no_other_bit feasible filled greedy points neighbours
+no_moves : found two (both ∷ []) 0 ≡ codes "front 1 knapsack 2\n4 4 : 0 1\nend stopped explored 0 evaluated 0 accepted 1\n"
+unfolding digits value fits no_other_bit feasible filled points neighbours value_of neighbours_of
 no_moves = refl
 
-commented : instance (two_items ++ codes "\t# done\n") ≡ Ok two
-commented = refl
-
-cut_short : instance (take 32 two_items) ≡ Err (Short 32)
-cut_short = refl
-
-one_more : instance (two_items ++ codes "7\n") ≡ Err (Extra 35)
-one_more = refl
-
 -- an item that does not fit
-none_fits :
-    text_of (instance (codes "pls1 knapsack 2 1 1\n0\n1\n1\n1\n"))
-    ≡ codes "front 1 knapsack 2\n0 0 : -\nend closed explored 1 evaluated 0 accepted 1\n"
-unfolding text_of digits value fits no_other_bit feasible filled greedy points neighbours
+abbrev one : Instance
+one = Knapsack (record {
+  items = 1;
+  objectives = 2;
+  rules = 1;
+  capacities = 0 ∷ [];
+  profits = 1 ∷ 1 ∷ [];
+  weights = 1 ∷ [];
+})
+
+none_fits : found one (no_items 1 ∷ []) 0 ≡ codes "front 1 knapsack 2\n0 0 : -\nend closed explored 1 evaluated 0 accepted 1\n"
+unfolding digits value fits no_other_bit feasible filled points neighbours value_of neighbours_of
 none_fits = refl
 
--- of two equal items the greedy fill takes the first
+none_shown :
+    shown one (no_items 1 ∷ []) 0
+    ≡ codes "demo knapsack 1 2 seed 9\nmembers 1 first 0 0 last 0 0\nend closed explored 1 evaluated 0 accepted 1\n"
+unfolding digits value fits no_other_bit feasible filled points neighbours value_of neighbours_of
+none_shown = refl
+
+-- of two equal items the one that was submitted first stays
+abbrev equal : Instance
+equal = Knapsack (record {
+  items = 2;
+  objectives = 2;
+  rules = 1;
+  capacities = 2 ∷ [];
+  profits = 1 ∷ 1 ∷ 1 ∷ 1 ∷ [];
+  weights = 2 ∷ 2 ∷ [];
+})
+
 equal_items :
-    text_of (instance (codes "pls1 knapsack 2 2 1\n2\n1 1\n1 1\n2 2\n"))
-    ≡ codes "front 1 knapsack 2\n1 1 : 0\nend closed explored 1 evaluated 2 accepted 1\n"
-unfolding text_of digits value fits no_other_bit feasible filled greedy points neighbours
+    found equal (with_item (no_items 2) 1 true ∷ with_item (no_items 2) 0 true ∷ []) 9
+    ≡ codes "front 1 knapsack 2\n1 1 : 1\nend closed explored 1 evaluated 2 accepted 1\n"
+unfolding digits value fits no_other_bit feasible filled points neighbours value_of neighbours_of
 equal_items = refl
 
--- a number just within its limits, and just beyond
-greatest :
-    text_of (instance (codes "pls1 knapsack 2 1 1\n5\n1000000\n1\n1\n"))
-    ≡ codes "front 1 knapsack 2\n1000000 1 : 0\nend closed explored 1 evaluated 1 accepted 1\n"
-unfolding text_of digits value fits no_other_bit feasible filled greedy points neighbours
-greatest = refl
-
-too_great : instance (codes "pls1 knapsack 2 1 1\n5\n1000001\n1\n1\n") ≡ Err (Range 22)
-too_great = refl
-
--- three items: the greedy start, and the run from item 2 with nine, seven and three moves
-three_items : text_of (instance (codes "pls1 knapsack 2 3 1\n5\n3 1 2\n1 3 2\n2 3 4\n")) ≡ two_report
-unfolding text_of digits value fits no_other_bit feasible filled greedy points neighbours
-three_items = refl
-
+-- three items, from item 2 with nine, seven and three moves, and from two starts
 abbrev three : Instance
-three =
-    record {
-      items = 3;
-      objectives = 2;
-      rules = 1;
-      capacities = 5 ∷ [];
-      profits = 3 ∷ 1 ∷ 2 ∷ 1 ∷ 3 ∷ 2 ∷ [];
-      weights = 2 ∷ 3 ∷ 4 ∷ [];
-    }
+three = Knapsack (record {
+  items = 3;
+  objectives = 2;
+  rules = 1;
+  capacities = 5 ∷ [];
+  profits = 3 ∷ 1 ∷ 2 ∷ 1 ∷ 3 ∷ 2 ∷ [];
+  weights = 2 ∷ 3 ∷ 4 ∷ [];
+})
 
-abbrev from_item_two : ℕ → List ℕ
-from_item_two moves =
-    let run = run_from three (with_item (no_items 3) 2 true) moves in
-    report 2 (front_of run) (counts_of 1 run) (end_of run)
+abbrev item_two : Solution
+item_two = with_item (no_items 3) 2 true
 
-nine_moves : from_item_two 9 ≡ codes "front 1 knapsack 2\n4 4 : 0 1\nend closed explored 3 evaluated 9 accepted 4\n"
-unfolding text_of digits value fits no_other_bit feasible filled greedy points neighbours
+nine_moves : found three (item_two ∷ []) 9 ≡ codes "front 1 knapsack 2\n4 4 : 0 1\nend closed explored 3 evaluated 9 accepted 4\n"
+unfolding digits value fits no_other_bit feasible filled points neighbours value_of neighbours_of
 nine_moves = refl
 
-seven_moves : from_item_two 7 ≡ codes "front 1 knapsack 2\n4 4 : 0 1\nend stopped explored 2 evaluated 7 accepted 4\n"
-unfolding text_of digits value fits no_other_bit feasible filled greedy points neighbours
+seven_moves : found three (item_two ∷ []) 7 ≡ codes "front 1 knapsack 2\n4 4 : 0 1\nend stopped explored 2 evaluated 7 accepted 4\n"
+unfolding digits value fits no_other_bit feasible filled points neighbours value_of neighbours_of
 seven_moves = refl
 
 three_moves :
-    from_item_two 3
+    found three (item_two ∷ []) 3
     ≡ codes "front 3 knapsack 2\n1 3 : 1\n2 2 : 2\n3 1 : 0\nend stopped explored 1 evaluated 3 accepted 3\n"
-unfolding text_of digits value fits no_other_bit feasible filled greedy points neighbours
+unfolding digits value fits no_other_bit feasible filled points neighbours value_of neighbours_of
 three_moves = refl
 
--- texts that are no instance, each with its first fault
-no_words : instance [] ≡ Err (Short 0)
-no_words = refl
+three_shown :
+    shown three (item_two ∷ []) 3
+    ≡ codes "demo knapsack 3 2 seed 9\nmembers 3 first 1 3 last 3 1\nend stopped explored 1 evaluated 3 accepted 3\n"
+unfolding digits value fits no_other_bit feasible filled points neighbours value_of neighbours_of
+three_shown = refl
 
-head_alone : instance (codes "pls1") ≡ Err (Short 4)
-head_alone = refl
+two_starts :
+    found three (item_two ∷ with_item (with_item (no_items 3) 0 true) 1 true ∷ []) 1
+    ≡ codes "front 1 knapsack 2\n4 4 : 0 1\nend stopped explored 0 evaluated 1 accepted 2\n"
+unfolding digits value fits no_other_bit feasible filled points neighbours value_of neighbours_of
+two_starts = refl
 
-all_comment : instance (codes "#pls1") ≡ Err (Short 5)
-all_comment = refl
+-- lines of faults
+no_line : due None [] ≡ record { status = Usage; text = codes "error usage\n" }
+no_line = refl
 
-other_head : instance (codes "pls3 knapsack") ≡ Err (Head 0)
-other_head = refl
+short_line : instance_line (Short 16777216) ≡ codes "error instance short 16777216\n"
+unfolding digits
+short_line = refl
 
-zero_byte : instance (0 ∷ []) ≡ Err (Head 0)
-zero_byte = refl
-
-other_kind : instance (codes "pls1 lot") ≡ Err (Shape 5)
-other_kind = refl
-
-comment_behind_head : instance (codes "pls1#c\nlot") ≡ Err (Shape 7)
-comment_behind_head = refl
-
-no_number : instance (codes "pls1 knapsack two") ≡ Err (Word 14)
-no_number = refl
-
-five_objectives : instance (codes "pls1 knapsack 5 1 1 and any rest") ≡ Err (Range 14)
-five_objectives = refl
-
-many_items : instance (codes "pls1 knapsack 2 257 1") ≡ Err (Range 16)
-many_items = refl
-
-nine_rules : instance (codes "pls1 knapsack 2 1 9") ≡ Err (Range 18)
-nine_rules = refl
-
-forty_digits : instance (codes "pls1 knapsack 2 1 1\n" ++ replicate 40 57) ≡ Err (Range 20)
-forty_digits = refl
-
-leading_zeros :
-    text_of (instance (codes "pls1 knapsack 2 1 1\n5 00000000000000001 1 1"))
-    ≡ codes "front 1 knapsack 2\n1 1 : 0\nend closed explored 1 evaluated 1 accepted 1\n"
-unfolding text_of digits value fits no_other_bit feasible filled greedy points neighbours
-leading_zeros = refl
+range_line : instance_line (Range 22) ≡ codes "error instance range 22\n"
+unfolding digits
+range_line = refl

@@ -1,15 +1,13 @@
-use Rattle.std.specs.Prelude.{if◌then◌else◌, nat_le, [], IsErr, ◌≡◌, ◌⊎◌, ℕ, ◌<◌, ◌≤◌, true, false, List, ◌++◌, length, take, Option, Some, Result, Ok, Err, IsOk, codes, ⊤}
-use Rattle.pls_io.specs.Streams.{Rose}
-use Rattle.pls_knapsack.specs.Instance.{Instance}
-use Rattle.pls_top.specs.Words.{is_line}
-use Rattle.pls_top.specs.Reading.{instance}
-use Rattle.pls_top.specs.Report.{line, run_report, end_of}
-use Rattle.pls_top.specs.declared.report.End.{End}
-use Rattle.pls_top.specs.declared.report.End.TheVariants as end
-use Rattle.pls_top.specs.Sequential.{greedy_run}
-use Rattle.pls_top.specs.declared.reader.BadInstance.{BadInstance as Fault}
+-- When each status may be answered, what was read then, and what was written.
+use Rattle.std.specs.Prelude.{[], ◌≡◌, ◌⊎◌, ℕ, ◌<◌, ◌≤◌, true, false, List, ◌++◌, length, take, Option, None, Some, IsSome, Err, IsOk, IsErr, ⊤}
+use Rattle.pls_problem.specs.Reading.{instance}
+use Rattle.pls_problem.specs.declared.reader.BadInstance.{BadInstance as Fault}
+use Rattle.pls_settings.specs.declared.choices.Mode.{Mode}
+use Rattle.pls_settings.specs.declared.choices.Mode.TheVariants.{Make}
+use Rattle.pls_settings.specs.declared.choices.Settings.{Settings}
 use Rattle.pls_top.specs.declared.status.Status.{Status}
 use Rattle.pls_top.specs.declared.status.Status.TheVariants.{Closed, Stopped, Usage, BadInstance, ReadFault, WriteFault, Full, Memory, TooLong}
+use Rattle.pls_top.specs.Due.{most_bytes, usage_line, read_line, too_long_line, instance_line, due, reads}
 
 -- the exit status of each answer
 abbrev pub code_of : Status → ℕ
@@ -23,43 +21,95 @@ code_of Full = 6
 code_of Memory = 7
 code_of TooLong = 8
 
--- the most bytes that are read
-abbrev pub most_bytes : ℕ
-most_bytes = 16777216
+-- ---- the causes of answers
 
--- Usage is answered exactly where the words are no command line; a sink that fails may hide either
-abbrev pub UsageExactly : List (List ℕ) → Status → Type 0
-UsageExactly words Usage = is_line words ≡ false
-UsageExactly words WriteFault = ⊤
-UsageExactly words Full = ⊥
-UsageExactly words status = is_line words ≡ true
+-- Usage is answered exactly where the words are no command line, unless memory ran out or the sink failed
+abbrev pub UsageExactly : Option Settings → Status → Type 0
+UsageExactly s Usage = s ≡ None
+UsageExactly s WriteFault = ⊤
+UsageExactly s Memory = ⊤
+UsageExactly s status = IsSome s
+
+-- only where the words ask for the source are there faults of it and of its bytes
+abbrev pub AsksSource : Option Settings → Status → Type 0
+AsksSource s BadInstance = reads s ≡ true
+AsksSource s ReadFault = reads s ≡ true
+AsksSource s TooLong = reads s ≡ true
+AsksSource s status = ⊤
 
 -- TooLong is answered exactly where a source that tells had more than 16,777,216 bytes left
-abbrev pub TooLongExactly : List ℕ → Status → Type 0
-TooLongExactly bytes Closed = length bytes ≤ most_bytes
-TooLongExactly bytes Stopped = length bytes ≤ most_bytes
-TooLongExactly bytes BadInstance = length bytes ≤ most_bytes
-TooLongExactly bytes TooLong = most_bytes < length bytes
-TooLongExactly bytes status = ⊤
+abbrev pub TooLongExactly : Option Settings → List ℕ → Status → Type 0
+TooLongExactly s bytes Closed = reads s ≡ true → length bytes ≤ most_bytes
+TooLongExactly s bytes Stopped = reads s ≡ true → length bytes ≤ most_bytes
+TooLongExactly s bytes BadInstance = length bytes ≤ most_bytes
+TooLongExactly s bytes TooLong = most_bytes < length bytes
+TooLongExactly s bytes status = ⊤
 
 -- BadInstance is answered exactly where the bytes, read to their end, are no instance
-abbrev pub BadInstanceExactly : List ℕ → Status → Type 0
-BadInstanceExactly bytes Closed = IsOk (instance bytes)
-BadInstanceExactly bytes Stopped = IsOk (instance bytes)
-BadInstanceExactly bytes BadInstance = IsErr (instance bytes)
-BadInstanceExactly bytes status = ⊤
+abbrev pub BadInstanceExactly : Option Settings → List ℕ → Status → Type 0
+BadInstanceExactly s bytes Closed = reads s ≡ true → IsOk (instance bytes)
+BadInstanceExactly s bytes Stopped = reads s ≡ true → IsOk (instance bytes)
+BadInstanceExactly s bytes BadInstance = IsErr (instance bytes)
+BadInstanceExactly s bytes status = ⊤
 
-abbrev pub usage_line : List ℕ
-usage_line = line (codes "error usage")
+-- the status that is due is the answer, unless a stream failed or memory ran out
+abbrev pub AnswersDueStatus : Status → Status → Type 0
+AnswersDueStatus due ReadFault = ⊤
+AnswersDueStatus due WriteFault = ⊤
+AnswersDueStatus due Memory = ⊤
+AnswersDueStatus due status = status ≡ due
 
-abbrev pub read_line : List ℕ
-read_line = line (codes "error read")
+-- where the words ask for the source, these are the bytes that it tells to have left
+abbrev pub Tells : Option Settings → Option (List ℕ) → List ℕ → Type 0
+Tells s left bytes = reads s ≡ true → left ≡ Some bytes
 
-abbrev pub too_long_line : List ℕ
-too_long_line = line (codes "error too long")
+-- the text that is due was written, unless memory ran out; what is made is always whole
+abbrev pub IsAnsweredIn : Mode → Status → Type 0
+IsAnsweredIn mode Closed = ⊤
+IsAnsweredIn Make Stopped = ⊥
+IsAnsweredIn mode Stopped = ⊤
+IsAnsweredIn mode Memory = ⊤
+IsAnsweredIn mode status = ⊥
 
-abbrev pub instance_line : List ℕ
-instance_line = line (codes "error instance")
+abbrev pub IsAnswered : Option Settings → Status → Type 0
+IsAnswered None status = ⊥
+IsAnswered (Some s) status = IsAnsweredIn s.mode status
+
+-- A command line; where it asks for the source, that has an instance of at most 16,777,216 bytes left;
+-- and no fault: `faulty` is that a count of faults rose.
+pub record IsUndisturbed (s : Option Settings) (left : Option (List ℕ)) (faulty : Type 0) : Type 0 where
+  pub is_line : IsSome s
+  pub source : reads s ≡ true → (bytes : List ℕ) × (left ≡ Some bytes) × (length bytes ≤ most_bytes) × IsOk (instance bytes)
+  pub no_fault : faulty → ⊥
+
+-- ---- what was read and written
+
+-- a source that the words do not ask for stands as it did
+abbrev pub LeavesUnasked : Option Settings → ℕ → ℕ → Option (List ℕ) → Option (List ℕ) → Type 0
+LeavesUnasked s faults faults' left left' = reads s ≡ false → (faults' ≡ faults) × (left' ≡ left)
+
+-- nothing is left of a source that tells
+abbrev pub IsReadWhole : Option (List ℕ) → Option (List ℕ) → Type 0
+IsReadWhole left left' = (bytes : List ℕ) → left ≡ Some bytes → left' ≡ Some []
+
+-- nothing is left of a source that tells at most 16,777,216 bytes
+abbrev pub IsShortReadWhole : Option (List ℕ) → Option (List ℕ) → Type 0
+IsShortReadWhole left left' = (bytes : List ℕ) → left ≡ Some bytes → length bytes ≤ most_bytes → left' ≡ Some []
+
+-- Nothing is left after an answer that the bytes of the source decide; nor where the sink failed and no read
+-- did (`calm`): all is read before anything is written.
+abbrev pub ReadsAll : Option Settings → Type 0 → Option (List ℕ) → Option (List ℕ) → Status → Type 0
+ReadsAll s calm left left' Closed = reads s ≡ true → IsReadWhole left left'
+ReadsAll s calm left left' Stopped = reads s ≡ true → IsReadWhole left left'
+ReadsAll s calm left left' BadInstance = IsReadWhole left left'
+ReadsAll s calm left left' WriteFault = reads s ≡ true → calm → IsShortReadWhole left left'
+ReadsAll s calm left left' status = ⊤
+
+-- a count that rose in the call tells which stream failed
+abbrev pub ReadFailed : Status → Type 0
+ReadFailed ReadFault = ⊤
+ReadFailed WriteFault = ⊤
+ReadFailed status = ⊥
 
 -- just this text was written after what stood there
 abbrev pub Written : List ℕ → List ℕ → Option (List ℕ) → Type 0
@@ -72,99 +122,23 @@ WrittenInPart text before after = (n : ℕ) × (n < length text) × (after ≡ S
 -- a fault's line is what was written for it, and nothing is written where memory ran out
 abbrev pub WritesFaultLine : Status → List ℕ → Option (List ℕ) → Type 0
 WritesFaultLine Usage = Written usage_line
-WritesFaultLine BadInstance = Written instance_line
+WritesFaultLine BadInstance = λ before after. (bytes : List ℕ) × (f : Fault) × (instance bytes ≡ Err f) × Written (instance_line f) before after
 WritesFaultLine ReadFault = Written read_line
 WritesFaultLine Memory = Written []
 WritesFaultLine TooLong = Written too_long_line
 WritesFaultLine status = λ before after. ⊤
 
--- where the words are no command line, a sink that failed took a proper prefix of the usage line
-abbrev pub UsageInPart : List (List ℕ) → Status → List ℕ → Option (List ℕ) → Type 0
-UsageInPart words WriteFault = λ before after. is_line words ≡ false → WrittenInPart usage_line before after
-UsageInPart words status = λ before after. ⊤
-
--- the moves of a search
-abbrev pub search_moves : ℕ
-search_moves = 1000000
-
--- the text that is due for what a reading gave
-unfoldable pub text_of : Result Instance Fault → List ℕ
-text_of (Ok k) = run_report k search_moves
-text_of (Err fault) = instance_line
-
--- the text that is due for the words and the bytes that the source had left
-abbrev pub due_text : List (List ℕ) → List ℕ → List ℕ
-due_text words bytes =
-    if is_line words
-    then (if nat_le (length bytes) most_bytes then text_of (instance bytes) else too_long_line)
-    else usage_line
+-- where a read failed and then the sink, that took a proper prefix of the line of a failed read
+abbrev pub ReadLineInPart : Status → List ℕ → Option (List ℕ) → Type 0
+ReadLineInPart WriteFault = WrittenInPart read_line
+ReadLineInPart status = λ before after. ⊤
 
 -- What stands in the sink afterwards: the text that is due or the line of a failed read, whole, or a
 -- proper prefix of it where the sink failed; nothing where memory ran out. `read_failed`: the words
--- are a command line, and the source failed.
+-- ask for the source, and it failed.
 abbrev pub WritesDueText : Type 0 → List ℕ → Status → List ℕ → Option (List ℕ) → Type 0
 WritesDueText read_failed due ReadFault = Written read_line
 WritesDueText read_failed due WriteFault =
     λ before after. WrittenInPart due before after ⊎ (read_failed × WrittenInPart read_line before after)
 WritesDueText read_failed due Memory = Written []
 WritesDueText read_failed due status = Written due
-
--- the status that tells how a search ended
-abbrev pub status_at : End → Status
-status_at end.Closed = Closed
-status_at end.Stopped = Stopped
-
--- the status that is due for what a reading gave
-unfoldable pub status_of : Result Instance Fault → Status
-status_of (Ok k) = status_at (end_of (greedy_run k search_moves))
-status_of (Err fault) = BadInstance
-
--- the status that is due for the words and the bytes that the source had left
-abbrev pub due_status : List (List ℕ) → List ℕ → Status
-due_status words bytes =
-    if is_line words
-    then (if nat_le (length bytes) most_bytes then status_of (instance bytes) else TooLong)
-    else Usage
-
--- the status that is due is the answer, unless a stream failed or memory ran out
-abbrev pub AnswersDueStatus : Status → Status → Type 0
-AnswersDueStatus due ReadFault = ⊤
-AnswersDueStatus due WriteFault = ⊤
-AnswersDueStatus due Memory = ⊤
-AnswersDueStatus due status = status ≡ due
-
--- all of a text was written, and the answer is this status
-abbrev pub WroteAll : Status → List ℕ → Option (List ℕ) → Option (List ℕ) → Status → Type 0
-WroteAll status text written written' result =
-    (result ≡ status) × ((before : List ℕ) → written ≡ Some before → Written text before written')
-
--- the sink failed, after a proper prefix of the text
-abbrev pub WrotePart : List ℕ → ℕ → ℕ → Option (List ℕ) → Option (List ℕ) → Status → Type 0
-WrotePart text faults faults' written written' result =
-    (result ≡ WriteFault) × Rose faults faults'
-    × ((before : List ℕ) → written ≡ Some before → WrittenInPart text before written')
-
--- a text was written, with this status, as far as the sink went
-abbrev pub Finishes : Status → List ℕ → ℕ → ℕ → Option (List ℕ) → Option (List ℕ) → Status → Type 0
-Finishes status text faults faults' written written' result =
-    WroteAll status text written written' result ⊎ WrotePart text faults faults' written written' result
-
--- the same, unless memory ran out before
-abbrev pub FinishesIfMemory : Status → List ℕ → ℕ → ℕ → Option (List ℕ) → Option (List ℕ) → Status → Type 0
-FinishesIfMemory status text faults faults' written written' result =
-    ((result ≡ Memory) × (written' ≡ written)) ⊎ Finishes status text faults faults' written written' result
-
--- the text of a search was due and written, unless memory ran out
-abbrev pub IsComplete : Status → Type 0
-IsComplete Closed = ⊤
-IsComplete Stopped = ⊤
-IsComplete Memory = ⊤
-IsComplete status = ⊥
-
--- Words that are a command line, a source that has an instance of at most 16,777,216 bytes left, and no
--- fault: `faulty` is that a count of faults rose.
-pub record IsUndisturbed (words : List (List ℕ)) (bytes : List ℕ) (faulty : Type 0) : Type 0 where
-  pub is_line : is_line words ≡ true
-  pub short : length bytes ≤ most_bytes
-  pub is_instance : IsOk (instance bytes)
-  pub no_fault : faulty → ⊥

@@ -1,4 +1,4 @@
-use Rattle.std.specs.Prelude.{ℕ, ℤ, Bool, ◌-◌, List, [], ◌∷◌, ◌++◌, length, codes, if◌then◌else◌}
+use Rattle.std.specs.Prelude.{ℕ, ℤ, ◌-◌, List, [], ◌∷◌, ◌++◌, length, slice_get, Option, None, Some, codes, if◌then◌else◌}
 use Rattle.std.specs.List.{filter, flat_map, join_by, range_with_len}
 use Rattle.std.specs.Fmt.{decimal, signed_decimal}
 use Rattle.pls_vectors.specs.Solution.{Solution, chosen}
@@ -6,18 +6,13 @@ use Rattle.pls_archive.specs.declared.point.Point.{Point}
 use Rattle.pls_archive.specs.History.{accepted, submissions}
 use Rattle.pls_archive.specs.Reply.{members, in_order}
 use Rattle.pls_archive.specs.Run.{Run}
-use Rattle.pls_knapsack.specs.Instance.{Instance}
-use Rattle.pls_top.specs.Sequential.{greedy_run}
+use Rattle.pls_io.specs.Lines.{line}
+use Rattle.pls_problem.specs.declared.instance.Instance.{Instance}
+use Rattle.pls_problem.specs.declared.instance.Instance.TheVariants.{Knapsack}
+use Rattle.pls_problem.specs.Instance.{objectives, size}
 use Rattle.pls_top.specs.declared.report.Counts.{Counts}
 use Rattle.pls_top.specs.declared.report.End.{End}
 use Rattle.pls_top.specs.declared.report.End.TheVariants.{Closed, Stopped}
-
-abbrev pub line : List ℕ → List ℕ
-line bytes = bytes ++ 10 ∷ []
-
--- what separates a piece from those before it, if there are any
-abbrev pub gap : Bool → List ℕ
-gap any = if any then codes " " else []
 
 -- items separated by spaces, or a dash for none
 abbrev pub items_text : List ℕ → List ℕ
@@ -35,9 +30,13 @@ value_text parts = join_by signed_decimal (codes " ") parts
 abbrev pub point_line : Point → List ℕ
 point_line p = line (value_text p.value ++ codes " : " ++ choice_text p.sol)
 
-abbrev pub front_line : ℕ → ℕ → List ℕ
-front_line points objectives =
-    line (codes "front " ++ decimal points ++ codes " knapsack " ++ decimal objectives)
+-- the name of an instance's kind
+abbrev pub kind_name : Instance → List ℕ
+kind_name (Knapsack k) = codes "knapsack"
+
+abbrev pub front_line : Instance → ℕ → List ℕ
+front_line i points =
+    line (codes "front " ++ decimal points ++ codes " " ++ kind_name i ++ codes " " ++ decimal (objectives i))
 
 abbrev pub end_text : End → List ℕ
 end_text Closed = codes "closed"
@@ -49,9 +48,29 @@ end_line counts end =
     ++ codes " evaluated " ++ decimal counts.evaluated ++ codes " accepted " ++ decimal counts.accepted)
 
 -- the text of a search
-abbrev pub report : ℕ → List Point → Counts → End → List ℕ
-report objectives front counts end =
-    front_line (length front) objectives ++ flat_map point_line front ++ end_line counts end
+abbrev pub report : Instance → List Point → Counts → End → List ℕ
+report i front counts end =
+    front_line i (length front) ++ flat_map point_line front ++ end_line counts end
+
+abbrev pub demo_line : Instance → ℕ → List ℕ
+demo_line i seed =
+    line (codes "demo " ++ kind_name i ++ codes " " ++ decimal (size i) ++ codes " " ++ decimal (objectives i)
+    ++ codes " seed " ++ decimal seed)
+
+-- the value of a point, or a dash for none
+abbrev pub value_or_dash : Option Point → List ℕ
+value_or_dash None = codes "-"
+value_or_dash (Some p) = value_text p.value
+
+abbrev pub members_line : List Point → List ℕ
+members_line front =
+    line (codes "members " ++ decimal (length front) ++ codes " first " ++ value_or_dash (slice_get front 0)
+    ++ codes " last " ++ value_or_dash (slice_get front (length front - 1)))
+
+-- the text of a search on an instance that was made from a seed: its first and its last point stand for the front
+abbrev pub demo_report : Instance → ℕ → List Point → Counts → End → List ℕ
+demo_report i seed front counts end =
+    demo_line i seed ++ members_line front ++ end_line counts end
 
 -- the members of the archive at the end of a run, in ascending lexicographic order of values
 abbrev pub front_of : Run → List Point
@@ -69,8 +88,3 @@ counts_of starts run =
 -- a run is closed where no exploration was cut short
 abbrev pub end_of : Run → End
 end_of run = if run.cut then Stopped else Closed
-
--- the text of the sequential run of an instance
-abbrev pub run_report : Instance → ℕ → List ℕ
-run_report k moves =
-    let run = greedy_run k moves in report k.objectives (front_of run) (counts_of 1 run) (end_of run)

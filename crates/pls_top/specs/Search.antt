@@ -4,8 +4,9 @@ use Rattle.pls_archive.specs.declared.point.Point.{Point}
 use Rattle.pls_archive.specs.declared.call.Entry.{Entry}
 use Rattle.pls_archive.specs.History.{accepted, submissions}
 use Rattle.pls_archive.specs.Reply.{point_weakly_dominates, members, some_weakly_dominates, in_order, nondominated}
-use Rattle.pls_archive.specs.Run.{Run, spending, exploring, exploring_all}
-use Rattle.pls_knapsack.specs.Instance.{Instance, feasible}
+use Rattle.pls_archive.specs.Run.{Run, submitting, spending, exploring, exploring_all}
+use Rattle.pls_problem.specs.declared.instance.Instance.{Instance}
+use Rattle.pls_problem.specs.Instance.{feasible}
 use Rattle.pls_top.specs.Report.{front_of, counts_of, end_of}
 use Rattle.pls_top.specs.Sequential.{neighbour_points}
 use Rattle.pls_top.specs.declared.report.End.TheVariants.{Closed, Stopped}
@@ -36,6 +37,13 @@ pub record Submits (p : Point) (before after : SearchState) : Type 0 where
 pub record Follows (history : List Entry) (state : SearchState) : Type 0 where
   pub archive : state.archive.items ≡ members (submissions history)
   pub tasks : state.tasks.items ≡ accepted history
+
+-- the points were submitted one after another
+pub record SubmitsAll (k : Instance) (points : List Point) (before after : SearchState) : Type 0 where
+  pub runs : (history : List Entry) → Follows history before → Follows (submitting nondominated (neighbour_points k) history points) after
+  pub bound : vec_len after.tasks ≤ vec_len before.tasks + length points
+  pub moves_left : after.moves_left ≡ before.moves_left
+  pub explored : after.explored ≡ before.explored
 
 -- a search stands where a run does; `whole`: no exploration of the run was cut short
 pub record IsAt (run : Run) (state : SearchState) (whole : Bool) : Type 0 where
@@ -75,8 +83,8 @@ pub record Reports (moves : ℕ) (whole : Bool) (state : SearchState) (outcome :
       ≡ record { explored = state.explored; evaluated = moves - state.moves_left; accepted = length state.tasks.items }
   pub end : outcome.end ≡ (if whole then Closed else Stopped)
 
--- the outcome is that of a run from one start
-pub record Shows (run : Run) (outcome : Outcome) : Type 0 where
+-- the outcome is that of a run from so many starts
+pub record Shows (starts : ℕ) (run : Run) (outcome : Outcome) : Type 0 where
   pub front : outcome.front ≡ front_of run
-  pub counts : outcome.counts ≡ counts_of 1 run
+  pub counts : outcome.counts ≡ counts_of starts run
   pub end : outcome.end ≡ end_of run

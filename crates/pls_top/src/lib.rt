@@ -1,18 +1,19 @@
 //! The program as a function from words and bytes to bytes.
 //!
-//! [`run`] reads the words of the command line and the text of an instance, searches, and writes the
-//! text of the search or the line of a fault. `specs/` says what is written.
+//! [`run`] reads the words of the command line; then it searches the instance that the source gives, or
+//! makes an instance and writes or searches it. What it writes is the text of that, or the line of a fault.
+//! `specs/` says what is written.
 #![tactic(auto)]
 
-mod arg_words;
+mod fault_line;
 mod program;
-mod reader;
 mod report;
 mod search;
 mod status;
 #[cfg(test)]
 mod tests;
 
-pub use arg_words::ArgWords;
+pub use pls_settings::{ArgWords, Mode, Settings, SettingsRefusal, settings};
 pub use program::run;
+pub use report::{Counts, End, demo_text, report_text};
 pub use status::Status;

@@ -1,35 +1,38 @@
 //! From the words and bytes that come in to the bytes that go out.
 
-ghost use Rattle.std.specs.Prelude.{◌≡◌, ◌⊎◌, ◌≤◌, ◌<◌, ◌^◌, ℕ, List, Some, true, IfOk, length};
-ghost use Rattle.std.specs.List.{range_with_len};
+ghost use Rattle.std.specs.Prelude.{◌≡◌, ◌⊎◌, ◌≤◌, ◌<◌, ℕ, List, Some, true, IfOk, Ok, length};
 ghost use Rattle.pls_io.specs.Streams.{Rose};
-ghost use Rattle.pls_knapsack.specs.Instance.{Instance};
-ghost use Rattle.pls_top.specs.Answer.{UsageExactly, TooLongExactly, BadInstanceExactly, WritesFaultLine, UsageInPart, WritesDueText, AnswersDueStatus, IsComplete, IsUndisturbed, due_text, due_status, text_of, status_of, search_moves, Finishes, FinishesIfMemory};
+ghost use Rattle.pls_io.specs.Refusals.{TakesSome};
+ghost use Rattle.pls_problem.specs.Made.{IsWithinLimits, made};
+ghost use Rattle.pls_problem.specs.Text.{instance_text};
+ghost use Rattle.pls_problem.specs.Reading.{instance};
+ghost use Rattle.pls_problem.specs.declared.instance.Instance.{Instance as AnyInstance};
+ghost use Rattle.pls_settings.specs.Line.{line};
+ghost use Rattle.pls_settings.specs.declared.choices.Mode.TheVariants.{Search};
+ghost use Rattle.pls_settings.specs.declared.choices.Settings.{Settings as Chosen};
+ghost use Rattle.pls_top.specs.Answer.{UsageExactly, AsksSource, TooLongExactly, BadInstanceExactly, AnswersDueStatus, Tells, IsAnswered, IsUndisturbed, LeavesUnasked, ReadsAll, WritesFaultLine, ReadFailed, ReadLineInPart, WritesDueText};
+ghost use Rattle.pls_top.specs.Due.{due, due_for, searched, demonstrated, written_out, reads, usage_line, most_bytes};
+ghost use Rattle.pls_top.specs.Ending.{Streams, IsEnding, Finishes, FinishesIfMemory};
 ghost use Rattle.pls_top.specs.Front.{IsSoundRun};
-ghost use Rattle.pls_top.specs.Reading.{instance};
 ghost use Rattle.pls_top.specs.Search.{Shows};
-ghost use Rattle.pls_top.specs.Sequential.{greedy_run};
-ghost use Rattle.pls_top.specs.Words.{is_line};
-ghost use Rattle.std.specs.Prelude.{Ok};
+ghost use Rattle.pls_top.specs.Sequential.{run_of};
 
-use crate::arg_words::ArgWords;
-use crate::reader::{BadInstance, read};
-use crate::report::report_text;
+use crate::fault_line::fault_line;
+use crate::report::{demo_text, report_text};
 use crate::search::{Outcome, search};
 use crate::status::Status;
 use pls_io::{ReadRefusal, Sink, Source, read_all, write_all};
-use pls_knapsack::Knapsack;
+use pls_problem::{Instance, MakeSpec, make, read, starts, write};
+use pls_settings::{ArgWords, Mode, Settings, SettingsRefusal, settings};
 use std::alloc::{AllocError, Global};
 
 /// The most bytes of an instance's text.
 const MOST_BYTES: usize = 16_777_216;
 
-/// The moves of a search.
-const MOVES: u64 = 1_000_000;
-
-/// Does all that the program does: reads the words of the command line, reads the source to its end,
-/// and writes to the sink the text of the search on the instance that the bytes are, or the line of a
-/// fault. Want of memory is answered where it happens; then nothing was written.
+/// Does all that the program does: reads the words of the command line; for a search reads the source to
+/// its end, and writes to the sink the text of the search on the instance that the bytes are; for the other
+/// modes makes an instance and writes its text, or searches it and writes three lines; or writes the line of
+/// a fault. Want of memory is answered where it happens; then nothing was written.
 pub fn run<S: Source, K: Sink>(
     alloc: Global,
     words: &ArgWords,
@@ -40,33 +43,89 @@ pub fn run<S: Source, K: Sink>(
     ensures sink_count { K.faults sink.old ≤ K.faults sink.new }
 
     // The cause of each answer.
-    ensures usage { UsageExactly words.now result }
+    ensures usage { UsageExactly (line words.now) result }
+    ensures asked { AsksSource (line words.now) result }
     ensures read_fault { result ≡ Status.ReadFault → Rose (S.faults source.old) (S.faults source.new) }
     ensures write_fault { result ≡ Status.WriteFault → Rose (K.faults sink.old) (K.faults sink.new) }
-    ensures too_long { (bytes : List ℕ) → S.left source.old ≡ Some bytes → TooLongExactly bytes result }
-    ensures bad_instance { (bytes : List ℕ) → S.left source.old ≡ Some bytes → BadInstanceExactly bytes result }
-    ensures status { (bytes : List ℕ) → S.left source.old ≡ Some bytes → AnswersDueStatus (due_status words.now bytes) result }
+    ensures source_failed { S.faults source.old < S.faults source.new → ReadFailed result }
+    ensures sink_failed { K.faults sink.old < K.faults sink.new → result ≡ Status.WriteFault }
+    ensures too_long { (bytes : List ℕ) → S.left source.old ≡ Some bytes → TooLongExactly (line words.now) bytes result }
+    ensures bad_instance { (bytes : List ℕ) → S.left source.old ≡ Some bytes → BadInstanceExactly (line words.now) bytes result }
+    ensures status { (bytes : List ℕ) → Tells (line words.now) (S.left source.old) bytes
+        → AnswersDueStatus (due (line words.now) bytes).status result }
+    ensures never_full { result ≡ Status.Full → ⊥ }
 
     // It does not give up by itself.
-    ensures complete { (bytes : List ℕ) → S.left source.old ≡ Some bytes
-        → IsUndisturbed words.now bytes (Rose (S.faults source.old) (S.faults source.new) ⊎ Rose (K.faults sink.old) (K.faults sink.new))
-        → IsComplete result }
+    ensures complete { IsUndisturbed (line words.now) (S.left source.old)
+        (((reads (line words.now) ≡ true) × Rose (S.faults source.old) (S.faults source.new)) ⊎ Rose (K.faults sink.old) (K.faults sink.new))
+        → IsAnswered (line words.now) result }
 
-    // What the run is worth whose text is due: see `status` for when it is closed.
-    ensures sound { (k : Instance) → IsSoundRun k search_moves (greedy_run k search_moves) }
+    // What the run is worth whose front is printed: see `status` for when it is closed.
+    ensures sound { (s : Chosen) (i : AnyInstance) → IsSoundRun i s.starts s.moves (run_of s i) }
+
+    // What is left in the source.
+    ensures rest { TakesSome (S.left source.old) (S.left source.new) }
+    ensures unasked { LeavesUnasked (line words.now) (S.faults source.old) (S.faults source.new) (S.left source.old) (S.left source.new) }
+    ensures reads_all { ReadsAll (line words.now) (Rose (S.faults source.old) (S.faults source.new) → ⊥)
+        (S.left source.old) (S.left source.new) result }
 
     // What was written.
     ensures fault_line { (before : List ℕ) → K.written sink.old ≡ Some before → WritesFaultLine result before (K.written sink.new) }
-    ensures usage_in_part { (before : List ℕ) → K.written sink.old ≡ Some before → UsageInPart words.now result before (K.written sink.new) }
-    ensures text { (bytes before : List ℕ) → S.left source.old ≡ Some bytes → K.written sink.old ≡ Some before
-        → WritesDueText ((is_line words.now ≡ true) × Rose (S.faults source.old) (S.faults source.new))
-        (due_text words.now bytes) result before (K.written sink.new) }
+    ensures read_line_in_part { S.faults source.old < S.faults source.new
+        → (before : List ℕ) → K.written sink.old ≡ Some before → ReadLineInPart result before (K.written sink.new) }
+    ensures text { (bytes : List ℕ) → Tells (line words.now) (S.left source.old) bytes
+        → (before : List ℕ) → K.written sink.old ≡ Some before
+        → WritesDueText ((reads (line words.now) ≡ true) × Rose (S.faults source.old) (S.faults source.new))
+        (due (line words.now) bytes).text result before (K.written sink.new) }
 {
-    if !words.is_line() {
-        return finish(sink, b"error usage\n", Status::Usage);
+    serve(alloc, words, source, sink)
+}
+
+/// What `run` does, told as one of the ways in which it ends.
+fn serve<S: Source, K: Sink>(
+    alloc: Global,
+    words: &ArgWords,
+    source: &mut S,
+    sink: &mut K,
+) -> Status
+    ensures source_count { S.faults source.old ≤ S.faults source.new }
+    ensures sink_count { K.faults sink.old ≤ K.faults sink.new }
+    ensures rest { TakesSome (S.left source.old) (S.left source.new) }
+    ensures unasked { LeavesUnasked (line words.now) (S.faults source.old) (S.faults source.new) (S.left source.old) (S.left source.new) }
+    ensures ending { IsEnding (line words.now)
+        (record { read_faults = S.faults source.old; left = S.left source.old; write_faults = K.faults sink.old; written = K.written sink.old })
+        (record { read_faults = S.faults source.new; left = S.left source.new; write_faults = K.faults sink.new; written = K.written sink.new })
+        result }
+{
+    match settings(alloc, words) {
+        Ok(settings) => match settings.mode {
+            Mode::Search => search_source(alloc, &settings, source, sink),
+            Mode::Make => make_and_write(alloc, &settings, sink),
+            Mode::Demo => demonstrate(alloc, &settings, sink),
+        },
+        Err(SettingsRefusal::Usage) => finish(sink, b"error usage\n", Status::Usage),
+        Err(SettingsRefusal::Memory) => Status::Memory,
     }
+}
+
+/// Searches the instance that the source gives.
+fn search_source<S: Source, K: Sink>(
+    alloc: Global,
+    settings: &Settings,
+    source: &mut S,
+    sink: &mut K,
+) -> Status
+    requires { settings.now.mode ≡ Search }
+    ensures source_count { S.faults source.old ≤ S.faults source.new }
+    ensures sink_count { K.faults sink.old ≤ K.faults sink.new }
+    ensures rest { TakesSome (S.left source.old) (S.left source.new) }
+    ensures ending { IsEnding (Some settings.now)
+        (record { read_faults = S.faults source.old; left = S.left source.old; write_faults = K.faults sink.old; written = K.written sink.old })
+        (record { read_faults = S.faults source.new; left = S.left source.new; write_faults = K.faults sink.new; written = K.written sink.new })
+        result }
+{
     match read_all(alloc, source, MOST_BYTES) {
-        Ok(text) => answer(alloc, &text, sink),
+        Ok(text) => answer(alloc, settings, &text, sink),
         Err(ReadRefusal::ReadFault) => finish(sink, b"error read\n", Status::ReadFault),
         Err(ReadRefusal::TooLong) => finish(sink, b"error too long\n", Status::TooLong),
         Err(ReadRefusal::Memory) => Status::Memory,
@@ -74,28 +133,33 @@ pub fn run<S: Source, K: Sink>(
 }
 
 /// Answers the bytes that were read.
-fn answer<K: Sink>(alloc: Global, text: &[u8], sink: &mut K) -> Status
-    requires { length text.now ≤ 16777216 }
+fn answer<K: Sink>(alloc: Global, settings: &Settings, text: &[u8], sink: &mut K) -> Status
+    requires { length text.now ≤ most_bytes }
     ensures count { K.faults sink.old ≤ K.faults sink.new }
-    ensures finishes { FinishesIfMemory (status_of (instance text.now)) (text_of (instance text.now))
+    ensures finishes { FinishesIfMemory (due_for settings.now (instance text.now))
         (K.faults sink.old) (K.faults sink.new) (K.written sink.old) (K.written sink.new) result }
 {
     match read(alloc, text) {
-        Ok(instance) => search_and_write(alloc, &instance, sink),
-        Err(fault) => match fault {
-            BadInstance::Memory => Status::Memory,
-            _ => finish(sink, b"error instance\n", Status::BadInstance),
+        Ok(instance) => search_and_write(alloc, settings, &instance, sink),
+        Err(fault) => match fault_line(fault) {
+            Some(line) => finish(sink, line.as_str().as_bytes(), Status::BadInstance),
+            None => Status::Memory,
         },
     }
 }
 
 /// Searches, and writes the text of the search.
-fn search_and_write<K: Sink>(alloc: Global, instance: &Knapsack, sink: &mut K) -> Status
+fn search_and_write<K: Sink>(
+    alloc: Global,
+    settings: &Settings,
+    instance: &Instance,
+    sink: &mut K,
+) -> Status
     ensures count { K.faults sink.old ≤ K.faults sink.new }
-    ensures finishes { FinishesIfMemory (status_of (Ok instance.now)) (text_of (Ok instance.now))
+    ensures finishes { FinishesIfMemory (searched settings.now instance.now)
         (K.faults sink.old) (K.faults sink.new) (K.written sink.old) (K.written sink.new) result }
 {
-    let Ok(outcome) = search_greedily(alloc, instance) else {
+    let Ok(outcome) = search_with(alloc, settings, instance) else {
         return Status::Memory;
     };
     let Ok(text) = report_text(alloc, instance, &outcome.front, outcome.counts, outcome.end) else {
@@ -104,30 +168,72 @@ fn search_and_write<K: Sink>(alloc: Global, instance: &Knapsack, sink: &mut K) -
     finish(sink, text.as_slice(), Status::from(outcome.end))
 }
 
-/// Searches from what a greedy fill takes along the items in ascending order.
-fn search_greedily(alloc: Global, instance: &Knapsack) -> Result<Outcome, AllocError>
-    ensures { IfOk result (Shows (greedy_run instance.now search_moves)) }
+/// Searches the instance that the settings make, and writes three lines on the search.
+fn demonstrate<K: Sink>(alloc: Global, settings: &Settings, sink: &mut K) -> Status
+    requires { IsWithinLimits settings.now.make }
+    ensures count { K.faults sink.old ≤ K.faults sink.new }
+    ensures finishes { FinishesIfMemory (demonstrated settings.now)
+        (K.faults sink.old) (K.faults sink.new) (K.written sink.old) (K.written sink.new) result }
 {
-    let order = ascending_items(alloc, instance.size())?;
-    let start = instance.greedy(order.as_slice());
-    search(alloc, instance, &start, MOVES)
+    let Ok(instance) = make(alloc, settings.make) else {
+        return Status::Memory;
+    };
+    let Ok(outcome) = search_with(alloc, settings, &instance) else {
+        return Status::Memory;
+    };
+    let seed = settings.seed;
+    let Ok(text) = demo_text(
+        alloc,
+        &instance,
+        seed,
+        &outcome.front,
+        outcome.counts,
+        outcome.end,
+    ) else {
+        return Status::Memory;
+    };
+    finish(sink, text.as_slice(), Status::from(outcome.end))
 }
 
-/// The items 0, 1, up to one below `count`.
-fn ascending_items(alloc: Global, count: u16) -> Result<Vec<u16>, AllocError>
-    ensures { IfOk result (λ items. items.items ≡ range_with_len 0 count) }
+/// Writes the text of the instance that the settings make.
+fn make_and_write<K: Sink>(alloc: Global, settings: &Settings, sink: &mut K) -> Status
+    requires { IsWithinLimits settings.now.make }
+    ensures count { K.faults sink.old ≤ K.faults sink.new }
+    ensures finishes { FinishesIfMemory (written_out settings.now)
+        (K.faults sink.old) (K.faults sink.new) (K.written sink.old) (K.written sink.new) result }
 {
-    let mut items = Vec::new(alloc);
-    for item in 0..count {
-        items.push(item)?;
-    }
-    Ok(items)
+    let Ok(text) = made_text(alloc, settings.make) else {
+        return Status::Memory;
+    };
+    finish(sink, text.as_slice(), Status::Closed)
+}
+
+/// The text of the instance that is made.
+fn made_text(alloc: Global, spec: MakeSpec) -> Result<Vec<u8>, AllocError>
+    requires { IsWithinLimits spec }
+    ensures { IfOk result (λ text. text.items ≡ instance_text (made spec)) }
+{
+    let instance = make(alloc, spec)?;
+    write(alloc, &instance)
+}
+
+/// Searches from the starts of the seed, with the given moves.
+fn search_with(
+    alloc: Global,
+    settings: &Settings,
+    instance: &Instance,
+) -> Result<Outcome, AllocError>
+    ensures { IfOk result (Shows settings.now.starts (run_of settings.now instance.now)) }
+{
+    let starts = starts(alloc, instance, settings.seed, settings.starts)?;
+    search(alloc, instance, starts.as_slice(), settings.moves)
 }
 
 /// Writes a text, and answers the status unless the sink fails.
 fn finish<K: Sink>(sink: &mut K, text: &[u8], status: Status) -> Status
     ensures count { K.faults sink.old ≤ K.faults sink.new }
-    ensures finishes { Finishes status text.now (K.faults sink.old) (K.faults sink.new) (K.written sink.old) (K.written sink.new) result }
+    ensures finishes { Finishes (record { status = status; text = text.now })
+        (K.faults sink.old) (K.faults sink.new) (K.written sink.old) (K.written sink.new) result }
 {
     match write_all(sink, text) {
         Ok(()) => status,

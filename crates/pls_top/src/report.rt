@@ -1,11 +1,11 @@
 //! The text of a search.
 
-ghost use Rattle.std.specs.Prelude.{◌≡◌, ◌++◌, IfOk, OnOk, string_bytes};
-ghost use Rattle.std.specs.Fmt.{decimal, signed_decimal};
-ghost use Rattle.pls_top.specs.Report.{report, point_line, value_text, choice_text, gap, end_line};
+ghost use Rattle.std.specs.Prelude.{◌≡◌, ◌++◌, IfOk, OnOk, option_copied, string_bytes};
+ghost use Rattle.pls_top.specs.Report.{report, demo_report, front_line, demo_line, members_line, kind_name, point_line, value_text, value_or_dash, choice_text, end_line};
 
 use pls_archive::{Point, PointList};
-use pls_knapsack::Knapsack;
+use pls_io::push_word;
+use pls_problem::Instance;
 use pls_vectors::{Sol, Vector};
 use std::alloc::{AllocError, Global};
 
@@ -30,22 +30,87 @@ pub enum End {
 /// The text of a search: a line on the front, a line for each of its points, and a line on the end.
 pub fn report_text(
     alloc: Global,
-    instance: &Knapsack,
+    instance: &Instance,
     front: &PointList,
     counts: Counts,
     end: End,
 ) -> Result<Vec<u8>, AllocError>
-    ensures { IfOk result (λ text. text.items ≡ report instance.now.objectives front.now counts end) }
+    ensures { IfOk result (λ text. text.items ≡ report instance.now front.now counts end) }
 {
-    let objectives = instance.objectives();
     let points = front.as_slice();
-    let count = points.len();
-    let mut text = format!(in alloc; "front {count} knapsack {objectives}\n")?;
+    let mut text = String::new(alloc);
+    write_front(&mut text, instance, points.len())?;
     for point in points {
         write_point(&mut text, point)?;
     }
     write_end(&mut text, counts, end)?;
     Ok(text.into_bytes())
+}
+
+/// The text of a search on an instance that was made from a seed, in three lines: the instance, the number
+/// of points with the first and the last value, and the end.
+pub fn demo_text(
+    alloc: Global,
+    instance: &Instance,
+    seed: u64,
+    front: &PointList,
+    counts: Counts,
+    end: End,
+) -> Result<Vec<u8>, AllocError>
+    ensures { IfOk result (λ text. text.items ≡ demo_report instance.now seed front.now counts end) }
+{
+    let mut text = String::new(alloc);
+    write_made(&mut text, instance, seed)?;
+    write_members(&mut text, front.as_slice())?;
+    write_end(&mut text, counts, end)?;
+    Ok(text.into_bytes())
+}
+
+fn write_front(text: &mut String, instance: &Instance, points: usize) -> Result<(), AllocError>
+    ensures { OnOk result (string_bytes text.new ≡ string_bytes text.old ++ front_line instance.now points) }
+{
+    let kind = kind_name(instance);
+    let objectives = instance.objectives();
+    write!(text, "front {points} {kind} {objectives}\n")
+}
+
+fn write_made(text: &mut String, instance: &Instance, seed: u64) -> Result<(), AllocError>
+    ensures { OnOk result (string_bytes text.new ≡ string_bytes text.old ++ demo_line instance.now seed) }
+{
+    let kind = kind_name(instance);
+    let size = instance.size();
+    let objectives = instance.objectives();
+    write!(text, "demo {kind} {size} {objectives} seed {seed}\n")
+}
+
+fn write_members(text: &mut String, points: &[Point]) -> Result<(), AllocError>
+    ensures { OnOk result (string_bytes text.new ≡ string_bytes text.old ++ members_line points.now) }
+{
+    let members = points.len();
+    write!(text, "members {members} first ")?;
+    write_value_or_dash(text, points.first())?;
+    text.push_str(" last ")?;
+    write_value_or_dash(text, points.last())?;
+    text.push_str("\n")
+}
+
+/// The name of an instance's kind.
+fn kind_name(instance: &Instance) -> &'static str
+    ensures { result.now ≡ kind_name instance.now }
+{
+    match instance {
+        Instance::Knapsack(_) => "knapsack",
+    }
+}
+
+/// Writes the value of a point, or a dash for none.
+fn write_value_or_dash(text: &mut String, point: Option<&Point>) -> Result<(), AllocError>
+    ensures { OnOk result (string_bytes text.new ≡ string_bytes text.old ++ value_or_dash (option_copied point.entry)) }
+{
+    match point {
+        Some(point) => write_value(text, &point.value),
+        None => text.push_str("-"),
+    }
 }
 
 fn write_point(text: &mut String, point: &Point) -> Result<(), AllocError>
@@ -65,7 +130,7 @@ fn write_value(text: &mut String, value: &Vector) -> Result<(), AllocError>
     let mut any = false;
     for k in 0..parts {
         let part = value.part(k);
-        write_part(text, any, part)?;
+        push_word(text, any, part)?;
         any = true;
     }
     Ok(())
@@ -79,7 +144,7 @@ fn write_choice(text: &mut String, choice: &Sol) -> Result<(), AllocError>
     let mut any = false;
     for i in 0..items {
         if choice.bit(i) {
-            write_item(text, any, i)?;
+            push_word(text, any, i)?;
             any = true;
         }
     }
@@ -87,29 +152,6 @@ fn write_choice(text: &mut String, choice: &Sol) -> Result<(), AllocError>
         text.push_str("-")?;
     }
     Ok(())
-}
-
-/// Writes a part of a value after others, if there are any.
-fn write_part(text: &mut String, any: bool, part: i64) -> Result<(), AllocError>
-    ensures { OnOk result (string_bytes text.new ≡ string_bytes text.old ++ (gap any ++ signed_decimal part)) }
-{
-    write_gap(text, any)?;
-    write!(text, "{part}")
-}
-
-/// Writes an item after others, if there are any.
-fn write_item(text: &mut String, any: bool, item: u16) -> Result<(), AllocError>
-    ensures { OnOk result (string_bytes text.new ≡ string_bytes text.old ++ (gap any ++ decimal item)) }
-{
-    write_gap(text, any)?;
-    write!(text, "{item}")
-}
-
-/// Writes the space that separates what comes now from what came before, if anything did.
-fn write_gap(text: &mut String, any: bool) -> Result<(), AllocError>
-    ensures { OnOk result (string_bytes text.new ≡ string_bytes text.old ++ gap any) }
-{
-    if any { text.push_str(" ") } else { Ok(()) }
 }
 
 fn write_end(text: &mut String, counts: Counts, end: End) -> Result<(), AllocError>

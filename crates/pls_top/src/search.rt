@@ -1,19 +1,23 @@
 //! Pareto local search on one thread, over a plain list of the members.
 
-ghost use Rattle.std.specs.Prelude.{◌≡◌, ◌+◌, ◌-◌, ◌^◌, ◌<◌, ◌≤◌, true, not, ◌&&◌, IfOk, OnOk, filter, vec_len, vec_capacity};
+ghost use Rattle.std.specs.Prelude.{◌≡◌, ◌+◌, ◌-◌, ◌^◌, ◌<◌, ◌≤◌, true, false, not, ◌&&◌, All, length, map, IfOk, OnOk, filter, vec_len, vec_capacity};
 ghost use Rattle.std.specs.Cmp.Lexicographic.{slice_cmp};
 ghost use Rattle.std.specs.List.Sorted.{IsPermutation, IsSortedByKey};
 ghost use Rattle.std.specs.Ordering.{int_cmp};
 ghost use Rattle.pls_vectors.specs.Archive.{dominates};
 ghost use Rattle.pls_vectors.specs.Dominance.{weakly_dominates};
-ghost use Rattle.pls_knapsack.specs.Instance.{feasible};
+ghost use Rattle.pls_problem.specs.Instance.{feasible};
+ghost use Rattle.pls_problem.specs.Walk.{IsWalkOf, current};
 ghost use Rattle.pls_archive.specs.Reply.{some_weakly_dominates, has_value};
-ghost use Rattle.pls_top.specs.Sequential.{run_from};
-ghost use Rattle.pls_top.specs.Search.{HasFeasible, StaysWithin, Submits, Explores, Visits, ExploresAll, Reports, Shows};
+ghost use Rattle.pls_top.specs.Sequential.{point_of, run_from};
+ghost use Rattle.pls_top.specs.Search.{HasFeasible, StaysWithin, Submits, SubmitsAll, Explores, Visits, ExploresAll, Reports, Shows};
+
+#[cfg(test)]
+mod tests;
 
 use crate::report::{Counts, End};
 use pls_archive::{Point, PointList};
-use pls_knapsack::Knapsack;
+use pls_problem::{Instance, Walk};
 use pls_vectors::{Sol, Vector};
 use std::alloc::{AllocError, Global};
 use std::cmp::{Ordering, min};
@@ -39,16 +43,16 @@ pub struct SearchState {
     explored: u64,
 }
 
-/// Searches from a feasible start with a budget of moves: accepted points are explored in order of
-/// acceptance, and one move is drawn before each neighbour.
+/// Searches from feasible starts with a budget of moves: the starts are submitted in order, accepted
+/// points are explored in order of acceptance, and one move is drawn before each neighbour.
 pub fn search(
     alloc: Global,
-    instance: &Knapsack,
-    start: &Sol,
+    instance: &Instance,
+    starts: &[Sol],
     moves: u64,
 ) -> Result<Outcome, AllocError>
-    requires { feasible instance.now start.now ≡ true }
-    ensures { IfOk result (Shows (run_from instance.now start.now moves)) }
+    requires { All (λ s. feasible instance.now s ≡ true) starts.now }
+    ensures { IfOk result (Shows (length starts.now) (run_from instance.now starts.now moves)) }
 {
     let mut state = SearchState {
         archive: Vec::new(alloc),
@@ -56,15 +60,28 @@ pub fn search(
         moves_left: moves,
         explored: 0,
     };
-    let value = instance.value(start);
-    state.submit(&value, start)?;
+    state.submit_all(instance, starts)?;
     let whole = state.explore_all(instance)?;
     state.outcome(moves, whole)
 }
 
 impl SearchState {
+    /// Submits solutions in order, each with its value.
+    fn submit_all(&mut self, instance: &Instance, sols: &[Sol]) -> Result<(), AllocError>
+        requires tasks { HasFeasible instance.now self.old }
+        requires sols { All (λ s. feasible instance.now s ≡ true) sols.now }
+        ensures submits { OnOk result (SubmitsAll instance.now (map (point_of instance.now) sols.now) self.old self.new) }
+        ensures tasks { OnOk result (HasFeasible instance.now self.new) }
+    {
+        for sol in sols {
+            let value = instance.value(sol);
+            self.submit(&value, sol)?;
+        }
+        Ok(())
+    }
+
     /// Explores every task in order, until a move is wanted and none is left. Whether all were explored.
-    fn explore_all(&mut self, instance: &Knapsack) -> Result<bool, AllocError>
+    fn explore_all(&mut self, instance: &Instance) -> Result<bool, AllocError>
         requires tasks { HasFeasible instance.now self.old }
         requires explored { self.old.explored ≡ 0 }
         ensures runs { IfOk result (ExploresAll instance.now self.old self.new) }
@@ -82,7 +99,7 @@ impl SearchState {
     }
 
     /// Explores a task that is a member, and skips one that no longer is. Whether no move was wanting.
-    fn visit(&mut self, instance: &Knapsack, task: &Point) -> Result<bool, AllocError>
+    fn visit(&mut self, instance: &Instance, task: &Point) -> Result<bool, AllocError>
         requires tasks { HasFeasible instance.now self.old }
         requires task { feasible instance.now task.now.sol ≡ true }
         requires explored { self.old.explored < 2 ^ 64 - 1 }
@@ -96,7 +113,7 @@ impl SearchState {
     }
 
     /// Submits the neighbours of a point in order, and draws a move before each. Whether all were submitted.
-    fn explore(&mut self, instance: &Knapsack, task: &Point) -> Result<bool, AllocError>
+    fn explore(&mut self, instance: &Instance, task: &Point) -> Result<bool, AllocError>
         requires tasks { HasFeasible instance.now self.old }
         requires task { feasible instance.now task.now.sol ≡ true }
         requires explored { self.old.explored < 2 ^ 64 - 1 }
@@ -104,12 +121,12 @@ impl SearchState {
         ensures within { OnOk result (StaysWithin instance.now self.old self.new) }
     {
         let mut walk = instance.walk(&task.sol);
-        while let Some(neighbour) = instance.next(&mut walk) {
+        while let Some(value) = instance.next_value(&mut walk) {
             if self.moves_left == 0 {
                 return Ok(false);
             }
             self.moves_left -= 1;
-            self.submit(&neighbour.0, &neighbour.1)?;
+            self.submit_neighbour(instance, &walk, &value)?;
         }
         self.explored += 1;
         Ok(true)
@@ -122,6 +139,33 @@ impl SearchState {
         if is_covered(&self.archive, value) {
             return Ok(());
         }
+        self.accept(value, sol)
+    }
+
+    /// Submits the neighbour that a walk gave last; its solution is made only where no member weakly
+    /// dominates its value.
+    fn submit_neighbour(
+        &mut self,
+        instance: &Instance,
+        walk: &Walk,
+        value: &Vector,
+    ) -> Result<(), AllocError>
+        requires { IsWalkOf instance.now walk.now }
+        ensures { OnOk result (Submits (record { value = value.now; sol = current walk.now }) self.old self.new) }
+    {
+        if is_covered(&self.archive, value) {
+            return Ok(());
+        }
+        let mut sol = Sol::bits(1);
+        instance.solution(walk, &mut sol);
+        self.accept(value, &sol)
+    }
+
+    /// Makes a point that no member weakly dominates a member and a task.
+    fn accept(&mut self, value: &Vector, sol: &Sol) -> Result<(), AllocError>
+        requires { some_weakly_dominates self.old.archive.items value.now ≡ false }
+        ensures { OnOk result (Submits (record { value = value.now; sol = sol.now }) self.old self.new) }
+    {
         self.archive.try_reserve(1)?;
         self.tasks.try_reserve(1)?;
         drop_dominated(&mut self.archive, value);
@@ -222,118 +266,4 @@ fn lex(a: &Vector, b: &Vector) -> Ordering
         }
     }
     a.len().cmp(&b.len())
-}
-
-#[cfg(test)]
-mod tests {
-    use super::*;
-    use crate::reader::read;
-    use std::process::Abort;
-    use std::test::Fail;
-
-    // Searches the instance of a text from these items, and compares the end and the counts
-    // (explored, evaluated, accepted) with what is wanted. Returns the front.
-    fn search_from<R: Abort>(
-        rt: &R,
-        alloc: Global,
-        text: &str,
-        items: &[u16],
-        moves: u64,
-        end: End,
-        counts: [u64; 3],
-    ) -> Result<PointList, Fail> {
-        assert!(rt; text.len() < 1000);
-        let instance = read(alloc, text.as_bytes()).expect(rt, "an instance");
-        let mut start = Sol::bits(instance.size());
-        for item in items {
-            assert!(rt; *item < start.len());
-            start.set_bit(*item, true);
-        }
-        assert!(rt; instance.is_feasible(&start));
-        let outcome = search(alloc, &instance, &start, moves)?;
-        let found = outcome.counts;
-        assert_eq!(rt; outcome.end, end, "the end after {moves} moves");
-        assert_eq!(rt;
-            [found.explored, found.evaluated, found.accepted],
-            counts,
-            "after {moves} moves"
-        );
-        Ok(outcome.front)
-    }
-
-    #[test]
-    fn searches_small_instances(rt: HostRuntime) -> Result<(), Fail> {
-        let three = "pls1 knapsack 2 3 1\n5\n3 1 2\n1 3 2\n2 3 4\n";
-        let two = "pls1 knapsack 2 2 1\n10\n3 1\n1 3\n2 3\n";
-        let both: &[([i64; 2], &[u16])] = &[([4, 4], &[0, 1])];
-        let each: &[([i64; 2], &[u16])] = &[([1, 3], &[1]), ([2, 2], &[2]), ([3, 1], &[0])];
-        // the instance, the start, the moves, the end, the counts, and the values and items of the front
-        let cases: [(&str, &[u16], u64, End, [u64; 3], &[([i64; 2], &[u16])]); 5] = [
-            (three, &[2], 9, End::Closed, [3, 9, 4], both),
-            (three, &[2], 7, End::Stopped, [2, 7, 4], both),
-            (three, &[2], 3, End::Stopped, [1, 3, 3], each),
-            (two, &[0, 1], 2, End::Closed, [1, 2, 1], both),
-            (two, &[0, 1], 0, End::Stopped, [0, 0, 1], both),
-        ];
-        for (text, start, moves, end, counts, wanted) in cases {
-            let front = search_from(&rt, rt.alloc(), text, start, moves, end, counts)?;
-            let points = front.as_slice();
-            assert_eq!(rt; points.len(), wanted.len(), "the front after {moves} moves");
-            for (point, (value, items)) in points.iter().zip(wanted) {
-                assert_eq!(rt;
-                    Some(point.value),
-                    Vector::new(value),
-                    "after {moves} moves"
-                );
-                for item in 0..point.sol.len() {
-                    assert_eq!(rt;
-                        point.sol.bit(item),
-                        items.contains(&item),
-                        "item {item} after {moves} moves"
-                    );
-                }
-            }
-        }
-        Ok(())
-    }
-
-    #[test]
-    fn finds_all_of_64_points(rt: HostRuntime) -> Result<(), Fail> {
-        // six pairs of items, of each of which one fits
-        let pairs = "pls1 knapsack 2 12 6\n1 1 1 1 1 1\n\
-            1 2 4 8 16 32 0 0 0 0 0 0\n\
-            0 0 0 0 0 0 1 2 4 8 16 32\n\
-            1 0 0 0 0 0 1 0 0 0 0 0\n\
-            0 1 0 0 0 0 0 1 0 0 0 0\n\
-            0 0 1 0 0 0 0 0 1 0 0 0\n\
-            0 0 0 1 0 0 0 0 0 1 0 0\n\
-            0 0 0 0 1 0 0 0 0 0 1 0\n\
-            0 0 0 0 0 1 0 0 0 0 0 1\n";
-        let cases = [
-            (768, End::Closed, [64, 768, 64]),
-            (767, End::Stopped, [63, 767, 64]),
-        ];
-        for (moves, end, counts) in cases {
-            let front = search_from(
-                &rt,
-                rt.alloc(),
-                pairs,
-                &[0, 1, 2, 3, 4, 5],
-                moves,
-                end,
-                counts,
-            )?;
-            let points = front.as_slice();
-            assert_eq!(rt; points.len(), 64, "the front after {moves} moves");
-            for (i, point) in points.iter().enumerate() {
-                let value = [i as i64, 63 - i as i64];
-                assert_eq!(rt;
-                    Some(point.value),
-                    Vector::new(&value),
-                    "point {i} after {moves} moves"
-                );
-            }
-        }
-        Ok(())
-    }
 }

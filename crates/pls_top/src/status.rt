@@ -1,5 +1,6 @@
 ghost use Rattle.std.specs.Prelude.{◌≡◌};
-ghost use Rattle.pls_top.specs.Answer.{code_of, status_at};
+ghost use Rattle.pls_top.specs.Answer.{code_of};
+ghost use Rattle.pls_top.specs.Due.{status_at};
 
 use crate::report::End;
 

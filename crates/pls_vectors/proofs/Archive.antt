@@ -1,3 +1,4 @@
+-- The nondominated archive with one more submission.
 use Rattle.std.proofs.Common.{◌≡◌, Bool, true, false, not, ◌&&◌, ◌||◌, inl, inr, if◌then◌else◌, List, [], ◌∷◌, ◌++◌, filter, All, Contains, IsTrue, refl, ap, sym, ◌∙◌, append_assoc}
 use Rattle.std.specs.List.{list_any, list_all}
 use Rattle.std.proofs.Math.Bool.{and-true}

@@ -1,3 +1,4 @@
+-- Lemmas on tests that the standard library lacks.
 use Rattle.std.proofs.Common.{◌≡◌, Bool, true, false, not, ◌&&◌, ◌||◌, refl, sym}
 
 -- lemmas on tests that std lacks

@@ -4,5 +4,6 @@ pub mod Bool
 pub mod Dominance
 pub mod FromEnd
 pub mod Lists
+pub mod Signs
 pub mod Solution
 pub mod Stored

@@ -1,11 +1,15 @@
-use Rattle.std.proofs.Common.{◌≡◌, ℕ, ◌-◌, ◌≤◌, ℤ, pos, List, [], ◌∷◌, ◌++◌, length, take, replicate, ap, sym, ◌∙◌, subst, arith}
+-- How a vector is stored: its places, and how they are compared.
+use Rattle.std.proofs.Common.{◌≡◌, ℕ, ◌-◌, ◌≤◌, zero, suc, ℤ, pos, true, List, [], ◌∷◌, ◌++◌, length, take, replicate, refl, ap, sym, ◌∙◌, subst, arith}
+use Rattle.std.specs.List.{list_all}
 use Rattle.std.specs.Ordering.{int_cmp, ordering_then}
 use Rattle.std.specs.Cmp.Lexicographic.{slice_cmp}
 use Rattle.std.proofs.lemmas.Cmp.{int_cmp_total, lists_total, tied_itself}
 use Rattle.std.proofs.Math.Seq.{take-append_seam, drop-append_seam}
 use Rattle.std.proofs.Common.{length-append}
-use Rattle.std.proofs.lemmas.List.{length-replicate}
-use Rattle.pls_vectors.specs.Dominance.{weakly_dominates, IsValue}
+use Rattle.std.proofs.lemmas.Bool.{and_from}
+use Rattle.std.proofs.lemmas.List.{length-replicate, take-append-drop}
+use Rattle.std.proofs.lemmas.List.Folds.{list_all-append}
+use Rattle.pls_vectors.specs.Dominance.{weakly_dominates, is_part, IsValue}
 use Rattle.pls_vectors.specs.Vector.{IsStored, places_of, places_of-stored}
 use Rattle.pls_vectors.proofs.Dominance.{weakly_dominates-append}
 
@@ -20,6 +24,17 @@ IsStored-places_of parts v = record {
   value = subst (λ (xs : List ℤ). IsValue xs) (sym (take-append_seam parts _)) v;
   unused = drop-append_seam parts _;
 }
+
+zeros_in_range : (n : ℕ) → list_all is_part (replicate n (pos 0)) ≡ true
+zeros_in_range zero = refl
+zeros_in_range (suc n) = zeros_in_range n
+
+-- all four places are in range
+pub places_in_range : {n : ℕ} {places : List ℤ} → IsStored n places → list_all is_part places ≡ true
+places_in_range {n} {places} s =
+    ap (list_all is_part) (sym (take-append-drop n places) ∙ ap (λ rest. take n places ++ rest) s.unused)
+    ∙ (list_all-append is_part (take n places) (replicate (4 - n) (pos 0))
+    ∙ and_from _ _ s.value.in_range (zeros_in_range (4 - n)))
 
 -- the places of two vectors of one length end alike
 alike_past_parts :

@@ -8,7 +8,7 @@ use std::marker::Model;
 /// Item `i` of a choice is one bit, number `i mod 64` from the least in word `i / 64`.
 #[derive(Clone, Copy, Debug, PartialEq, Eq)]
 pub struct Sol {
-    len: u16,
+    len: usize,
     words: [u64; 32],
 }
 
@@ -33,7 +33,7 @@ impl Sol {
         ensures { result ≡ no_items n }
     {
         Sol {
-            len: n,
+            len: n as usize,
             words: [0; 32],
         }
     }
@@ -45,7 +45,7 @@ impl Sol {
         ensures few { result ≤ 256 }
         ensures words { length self.now.words ≡ 32 }
     {
-        self.len
+        self.len as u16
     }
 
     /// The word at place `k`.

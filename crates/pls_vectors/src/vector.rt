@@ -1,4 +1,4 @@
-ghost use Rattle.std.specs.Prelude.{◌≡◌, ◌≢◌, ◌<◌, ◌↔◌, ◌≤◌, IsTrue, IsSome, IfSome, length, slice_get, Some};
+ghost use Rattle.std.specs.Prelude.{◌≡◌, ◌≢◌, ◌-◌, ◌<◌, ◌↔◌, ◌≤◌, pos, IsTrue, IsSome, IfSome, length, slice_get, take, drop, replicate, Some};
 ghost use Rattle.std.specs.List.{list_all};
 ghost use Rattle.std.specs.Ordering.{int_cmp};
 ghost use Rattle.std.specs.Cmp.Lexicographic.{slice_cmp};
@@ -18,7 +18,7 @@ const PART_BOUND: i64 = 1 << 40;
 /// Two to four objective values, each between `-2^40` and `2^40`. Larger is better in every part.
 #[derive(Clone, Copy, Debug, PartialEq, Eq)]
 pub struct Vector {
-    len: u8,
+    len: usize,
     parts: [i64; MOST_PARTS],
 }
 
@@ -50,9 +50,20 @@ impl Vector {
             return None;
         }
         Some(Vector {
-            len: parts.len() as u8,
+            len: parts.len(),
             parts: places_of(parts),
         })
+    }
+
+    /// The vector of the first `len` of these places, of which the others are 0.
+    pub fn from_places(len: usize, places: [i64; MOST_PARTS]) -> Vector
+        requires some { 2 ≤ len }
+        requires few { len ≤ 4 }
+        requires in_range { IsTrue (list_all is_part places) }
+        requires unused { drop len places ≡ replicate (4 - len) (pos 0) }
+        ensures { result ≡ take len places }
+    {
+        Vector { len, parts: places }
     }
 
     /// How many parts the vector has, 2 to 4.
@@ -61,7 +72,7 @@ impl Vector {
         ensures some { 2 ≤ result }
         ensures few { result ≤ 4 }
     {
-        self.len as usize
+        self.len
     }
 
     /// The part at place `k`.
@@ -100,16 +111,14 @@ impl Vector {
     }
 }
 
-/// Whether each number of the first array is at least the second's. There is no branch: the places past
-/// the parts are 0 in both vectors, so they may be compared too.
+/// Whether each number of the first array is at least the second's. There is no branch: a difference below
+/// 0 sets the sign, and the places past the parts are 0 in both vectors, so they may be compared too.
 fn at_least(a: &[i64; MOST_PARTS], b: &[i64; MOST_PARTS]) -> bool
+    requires a_in_range { IsTrue (list_all is_part a.now) }
+    requires b_in_range { IsTrue (list_all is_part b.now) }
     ensures { result ≡ weakly_dominates a.now b.now }
 {
-    let mut all = true;
-    for k in 0..MOST_PARTS {
-        all &= a[k] >= b[k];
-    }
-    all
+    ((a[0] - b[0]) | (a[1] - b[1]) | (a[2] - b[2]) | (a[3] - b[3])) >= 0
 }
 
 /// Whether these are two to four parts, each in range.
@@ -167,6 +176,8 @@ mod tests {
 
     #[test]
     fn keeps_the_parts(rt: HostRuntime) {
+        let places = Vector::from_places(2, [7, -8, 0, 0]);
+        assert_eq!(rt; Some(places), Vector::new(&[7, -8]));
         let v = Vector::new(&[7, -8, 9]).expect(&rt, "three parts in range");
         assert_eq!(rt; v.len(), 3);
         assert_eq!(rt; [v.part(0), v.part(1), v.part(2)], [7, -8, 9]);

@@ -1,8 +1,9 @@
-ghost use Rattle.std.specs.Prelude.{◌≡◌, ◌<◌, ◌≤◌, true, length};
-ghost use Rattle.pls_knapsack.specs.Instance.{feasible, fits, no_other_bit, value, greedy, IsOrderOf};
+ghost use Rattle.std.specs.Prelude.{◌≡◌, ℕ, ◌<◌, ◌≤◌, true, length, slice_index};
+ghost use Rattle.pls_knapsack.specs.Instance.{feasible, fits, no_other_bit, value, greedy, profit, load, sum_chosen, IsOrderOf};
 
+use super::amounts::{Amounts, PROFIT_ROWS, WEIGHT_ROWS};
 use super::tally::Tally;
-use super::{Knapsack, rows};
+use super::{Knapsack, amounts};
 use pls_vectors::{Sol, Vector};
 
 impl Knapsack {
@@ -17,15 +18,10 @@ impl Knapsack {
 
     /// Whether no weight row is loaded beyond its capacity.
     fn is_within_capacities(&self, sol: &Sol) -> bool
-        requires { self.now.items ≤ sol.now.len }
+        requires { sol.now.len ≡ self.now.items }
         ensures { result ≡ fits self.now sol.now }
     {
-        let mut all = true;
-        for row in 0..self.rules {
-            all &= rows::sum_row(&self.weights, self.items, row, sol)
-                <= self.capacities[row as usize];
-        }
-        all
+        amounts::fit(&self.total(sol).weights, self.capacities())
     }
 
     /// The value of a feasible choice: in each profit row the sum over the chosen items.
@@ -34,9 +30,28 @@ impl Knapsack {
         ensures value { result ≡ value self.now sol.now }
         ensures parts { length result ≡ self.now.objectives }
     {
-        let mut values = [0; 4];
-        rows::sum_rows(&mut values, &self.profits, self.items, self.objectives, sol);
-        rows::vector_of(&values, self.objectives)
+        amounts::vector_of(&self.total(sol).profits, self.objectives())
+    }
+
+    /// The sum over the chosen items in each row.
+    pub(super) fn total(&self, sol: &Sol) -> Amounts
+        requires { sol.now.len ≡ self.now.items }
+        ensures stored { length sol.now.words ≡ 32 }
+        ensures profits { (row : ℕ) → row < 4 → slice_index result.profits row ≡ sum_chosen self.now sol.now (profit self.now row) }
+        ensures weights { (row : ℕ) → row < 8 → slice_index result.weights row ≡ load self.now sol.now row }
+    {
+        let mut total = Amounts {
+            profits: [0; PROFIT_ROWS],
+            weights: [0; WEIGHT_ROWS],
+        };
+        for item in 0..sol.len() {
+            if sol.bit(item) {
+                let chosen = self.amounts(item);
+                amounts::add(&mut total.profits, &chosen.profits);
+                amounts::add(&mut total.weights, &chosen.weights);
+            }
+        }
+        total
     }
 
     /// What a greedy fill takes: it goes along the order and takes each item that still fits.
@@ -46,9 +61,9 @@ impl Knapsack {
         ensures feasible { feasible self.now result ≡ true }
     {
         let mut tally = Tally {
-            sol: Sol::bits(self.items),
-            values: [0; 4],
-            loads: [0; 8],
+            sol: Sol::bits(self.size()),
+            values: [0; PROFIT_ROWS],
+            rooms: *self.capacities(),
         };
         for item in order {
             if self.fits(&tally, *item) {

@@ -3,16 +3,17 @@ ghost use Rattle.pls_vectors.specs.Solution.{chosen, with_item};
 ghost use Rattle.pls_knapsack.specs.Instance.{feasible, profit, sum_chosen};
 ghost use Rattle.pls_knapsack.specs.Neighbours.{flipped};
 
-use super::{Knapsack, rows};
+use super::amounts::{PROFIT_ROWS, WEIGHT_ROWS};
+use super::{Knapsack, amounts};
 use pls_vectors::Sol;
 
-/// A feasible choice with the sum of its profits in each profit row and of its weights in each weight
-/// row; sums past the instance's rows are free.
+/// A feasible choice with the sum of its profits in each profit row, and with what its weights leave of
+/// each capacity; both are 0 in the rows that the instance does not have.
 #[derive(Clone, Copy, Debug)]
 pub struct Tally {
     pub sol: Sol,
-    pub values: [u32; 4],
-    pub loads: [u32; 8],
+    pub values: [u32; PROFIT_ROWS],
+    pub rooms: [u32; WEIGHT_ROWS],
 }
 
 impl Knapsack {
@@ -24,15 +25,13 @@ impl Knapsack {
         ensures tally { IsTally self.now result }
         ensures sol { result.sol ≡ sol.now }
     {
-        let items = sol.len();
-        let mut values = [0; 4];
-        rows::sum_rows(&mut values, &self.profits, items, self.objectives, sol);
-        let mut loads = [0; 8];
-        rows::sum_rows(&mut loads, &self.weights, items, self.rules, sol);
+        let total = self.total(sol);
+        let mut rooms = *self.capacities();
+        amounts::subtract(&mut rooms, &total.weights);
         Tally {
             sol: *sol,
-            values,
-            loads,
+            values: total.profits,
+            rooms,
         }
     }
 
@@ -43,14 +42,7 @@ impl Knapsack {
         requires free { chosen tally.now.sol item ≡ false }
         ensures { result ≡ feasible self.now (with_item tally.now.sol item true) }
     {
-        rows::fits_item(
-            &tally.loads,
-            &self.capacities,
-            &self.weights,
-            self.items,
-            self.rules,
-            item,
-        )
+        amounts::fit(&self.amounts(item).weights, &tally.rooms)
     }
 
     /// Puts an item in that is not chosen and fits.
@@ -63,71 +55,40 @@ impl Knapsack {
         ensures sol { tally.new.sol ≡ with_item tally.old.sol item true }
         ensures others { (other : ℕ) → other ≢ item → chosen tally.new.sol other ≡ chosen tally.old.sol other }
     {
-        rows::add_item(
-            &mut tally.values,
-            &self.profits,
-            self.items,
-            self.objectives,
-            item,
-        );
-        rows::add_item(
-            &mut tally.loads,
-            &self.weights,
-            self.items,
-            self.rules,
-            item,
-        );
+        let amounts = self.amounts(item);
+        amounts::add(&mut tally.values, &amounts.profits);
+        amounts::subtract(&mut tally.rooms, &amounts.weights);
         tally.sol.set_bit(item, true);
     }
 
-    /// The tally without a chosen item.
-    pub(super) fn without(&self, tally: &Tally, item: u16) -> Tally
-        requires tally { IsTally self.now tally.now }
+    /// Takes a chosen item out.
+    pub(super) fn take(&self, tally: &mut Tally, item: u16)
+        requires tally { IsTally self.now tally.old }
         requires item_in { item < self.now.items }
-        requires taken { chosen tally.now.sol item ≡ true }
-        ensures tally { IsTally self.now result }
-        ensures sol { result.sol ≡ with_item tally.now.sol item false }
-        ensures smaller { (other : ℕ) → chosen tally.now.sol other ≡ false → chosen result.sol other ≡ false }
+        requires taken { chosen tally.old.sol item ≡ true }
+        ensures tally { IsTally self.now tally.new }
+        ensures sol { tally.new.sol ≡ with_item tally.old.sol item false }
+        ensures smaller { (other : ℕ) → chosen tally.old.sol other ≡ false → chosen tally.new.sol other ≡ false }
     {
-        let mut sol = tally.sol;
-        sol.set_bit(item, false);
-        let mut values = tally.values;
-        rows::take_item(
-            &mut values,
-            &self.profits,
-            self.items,
-            self.objectives,
-            item,
-        );
-        let mut loads = tally.loads;
-        rows::take_item(&mut loads, &self.weights, self.items, self.rules, item);
-        Tally { sol, values, loads }
+        let amounts = self.amounts(item);
+        amounts::subtract(&mut tally.values, &amounts.profits);
+        amounts::add(&mut tally.rooms, &amounts.weights);
+        tally.sol.set_bit(item, false);
     }
 
     /// The sums of the profits once an item is flipped.
-    pub(super) fn values_flipped(&self, tally: &Tally, item: u16) -> [u32; 4]
+    pub(super) fn values_flipped(&self, tally: &Tally, item: u16) -> [u32; PROFIT_ROWS]
         requires tally { IsTally self.now tally.now }
         requires item_in { item < self.now.items }
-        ensures { (row : ℕ) → row < self.now.objectives
+        ensures { (row : ℕ) → row < 4
             → slice_index result row ≡ sum_chosen self.now (flipped tally.now.sol item) (profit self.now row) }
     {
         let mut values = tally.values;
+        let profits = &self.amounts(item).profits;
         if tally.sol.bit(item) {
-            rows::take_item(
-                &mut values,
-                &self.profits,
-                self.items,
-                self.objectives,
-                item,
-            );
+            amounts::subtract(&mut values, profits);
         } else {
-            rows::add_item(
-                &mut values,
-                &self.profits,
-                self.items,
-                self.objectives,
-                item,
-            );
+            amounts::add(&mut values, profits);
         }
         values
     }

@@ -14,21 +14,27 @@ fn choice(rt: &impl Abort, n: u16, items: &[u16]) -> Sol {
     sol
 }
 
-// Walks from a choice to the end of its neighbours, and compares each with the value and the items that are wanted.
+// Walks from a choice to the end of its neighbours, and compares each with the value and the items that are wanted:
+// by one walk with its solutions, and by another with its value first and its solution over another one.
 fn check_walk(rt: &impl Abort, k: &Knapsack, start: &[u16], neighbours: &[([i64; 2], &[u16])]) {
     let start = choice(rt, k.size(), start);
     assert!(rt; k.is_feasible(&start));
     let mut walk = k.walk(&start);
+    let mut by_value = k.walk(&start);
+    let mut sol = Sol::bits(256);
     for (value, items) in neighbours {
-        let found = k.next(&mut walk);
-        assert!(rt; found.is_some());
-        if let Some((vector, sol)) = found {
-            assert_eq!(rt; Some(vector), Vector::new(value));
-            assert_eq!(rt; sol, choice(rt, k.size(), items));
-        }
+        let wanted = choice(rt, k.size(), items);
+        assert_eq!(rt;
+            k.next(&mut walk),
+            Vector::new(value).map(|vector| (vector, wanted))
+        );
+        assert_eq!(rt; k.next_value(&mut by_value), Vector::new(value));
+        k.solution(&by_value, &mut sol);
+        assert_eq!(rt; sol, wanted);
     }
     assert!(rt; k.next(&mut walk).is_none());
     assert!(rt; k.next(&mut walk).is_none(), "after the end");
+    assert!(rt; k.next_value(&mut by_value).is_none());
 }
 
 #[test]

@@ -1,14 +1,15 @@
 ghost use Rattle.std.specs.Prelude.{◌≡◌, ◌↔◌, ◌+◌, ◌<◌, ◌≤◌, ◌++◌, [], true, false, IsNone, IfSome, IfNone, option_to_list, option_map, length, if◌then◌else◌};
-ghost use Rattle.pls_vectors.specs.Solution.{chosen, with_item};
+ghost use Rattle.pls_vectors.specs.Solution.{chosen, with_item, no_items};
 ghost use Rattle.pls_knapsack.specs.Instance.{IsWithinLimits, feasible, value};
 ghost use Rattle.pls_knapsack.specs.Neighbours.{flipped, neighbours, point, points};
 
 use super::tally::Tally;
-use super::{Knapsack, rows};
+use super::{Knapsack, amounts};
 use pls_vectors::{Sol, Vector};
 
 /// A walk over the neighbours of a feasible choice: which flips and exchanges are still to be tried,
-/// with the sums of the choice, and those without the item that the exchanges take out.
+/// with the sums of the choice, and those without the item that the exchanges take out. It remembers the
+/// neighbour that it gave last.
 #[derive(Clone, Copy, Debug)]
 pub struct Walk {
     start: Tally,
@@ -16,10 +17,13 @@ pub struct Walk {
     reduced: Tally,
     put: u16,
     take: u16,
+    /// The item in which the neighbour given last differs from the start, or from the reduced choice.
+    item: u16,
+    is_flip: bool,
 }
 
 impl Knapsack {
-    ghost use Rattle.pls_knapsack.specs.Walk.{IsTally, IsWalkOf, left, flips_left, exchanges_left};
+    ghost use Rattle.pls_knapsack.specs.Walk.{IsTally, IsWalkOf, current, left, flips_left, exchanges_left};
 
     /// The walk over the neighbours of a feasible choice, at most 16,640, which has given none of them.
     pub fn walk(&self, sol: &Sol) -> Walk
@@ -29,19 +33,15 @@ impl Knapsack {
         ensures few { length (neighbours self.now sol.now) ≤ 16640 }
     {
         let start = self.tally(sol);
-        let values = start.values;
-        let loads = start.loads;
-        let reduced = Tally {
-            sol: start.sol,
-            values,
-            loads,
-        };
+        let reduced = start;
         Walk {
             start,
             flip: 0,
             reduced,
-            put: self.items,
+            put: self.size(),
             take: 0,
+            item: 0,
+            is_flip: true,
         }
     }
 
@@ -55,14 +55,48 @@ impl Knapsack {
         ensures value { IfSome result (λ p. p.0 ≡ value self.now p.1) }
         ensures parts { IfSome result (λ p. length p.0 ≡ self.now.objectives) }
     {
-        let Some((flips, item)) = self.find(walk) else {
+        let Some(value) = self.next_value(walk) else {
             return None;
         };
-        let tally = if flips { &walk.start } else { &walk.reduced };
+        let mut sol = Sol::bits(self.size());
+        self.solution(walk, &mut sol);
+        Some((value, sol))
+    }
+
+    /// The value of the next neighbour, or None where all were given. [`Knapsack::solution`] then writes the
+    /// neighbour itself.
+    pub fn next_value(&self, walk: &mut Walk) -> Option<Vector>
+        requires { IsWalkOf self.now walk.old }
+        ensures made { IsWalkOf self.now walk.new }
+        ensures step { left self.now walk.old
+            ≡ option_to_list (option_map (λ v. (v, current walk.new)) result) ++ left self.now walk.new }
+        ensures end { IsNone result ↔ (left self.now walk.old ≡ []) }
+        ensures feasible { IfSome result (λ v. feasible self.now (current walk.new) ≡ true) }
+        ensures value { IfSome result (λ v. v ≡ value self.now (current walk.new)) }
+        ensures parts { IfSome result (λ v. length v ≡ self.now.objectives) }
+    {
+        let Some((is_flip, item)) = self.find(walk) else {
+            return None;
+        };
+        walk.is_flip = is_flip;
+        walk.item = item;
+        let tally = if is_flip { &walk.start } else { &walk.reduced };
         let values = self.values_flipped(tally, item);
-        let mut sol = tally.sol;
-        sol.set_bit(item, !tally.sol.bit(item));
-        Some((rows::vector_of(&values, self.objectives), sol))
+        Some(amounts::vector_of(&values, self.objectives()))
+    }
+
+    /// Writes the neighbour whose value was given last over a choice; before the first one, a choice of no meaning.
+    pub fn solution(&self, walk: &Walk, into: &mut Sol)
+        requires { IsWalkOf self.now walk.now }
+        ensures { into.new ≡ current walk.now }
+    {
+        let base = if walk.is_flip {
+            &walk.start.sol
+        } else {
+            &walk.reduced.sol
+        };
+        *into = *base;
+        into.set_bit(walk.item, !base.bit(walk.item));
     }
 
     /// The item of the next feasible flip of the start, or else of the reduced choice, and whether it is of the start.
@@ -177,7 +211,8 @@ impl Knapsack {
         let item = walk.take;
         walk.take += 1;
         if walk.start.sol.bit(item) {
-            walk.reduced = self.without(&walk.start, item);
+            walk.reduced = walk.start;
+            self.take(&mut walk.reduced, item);
             walk.put = 0;
         }
     }

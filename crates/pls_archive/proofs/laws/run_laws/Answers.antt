@@ -2,7 +2,7 @@ use Rattle.pls_archive.proofs.Ends.{sequential_run-HasEnoughFuel}
 use Rattle.pls_archive.proofs.Explored.{sequential_run-ExploresAllAccepted, sequential_run-IsCutWithoutMoves}
 use Rattle.pls_archive.proofs.Legal.{IsLegal-sequential_run}
 use Rattle.pls_archive.proofs.LocalOptima.{sequential_run-EndsInLocalOptima}
-use Rattle.pls_archive.proofs.Moves.{sequential_run-DrawsMoves}
+use Rattle.pls_archive.proofs.Drawn.{sequential_run-DrawsMoves}
 use Rattle.pls_archive.proofs.laws.run_laws.Goals as goal
 
 pub returns-clause-legal : goal.returns-clause-legal

@@ -1,5 +1,5 @@
-use Rattle.std.proofs.Common.{arith, length-take}
-use Rattle.pls_io.proofs.Moves.{HasRead-more, TakesSome-from_HasRead, TakesAll-from_end, IsTooLong-from_more}
+use Rattle.std.proofs.Common.{◌∙◌, arith, length-take}
+use Rattle.pls_io.proofs.Transfers.{HasRead-more, TakesSome-from_HasRead, TakesAll-from_end, IsTooLong-from_more}
 use Rattle.pls_io.proofs.read.read_pieces.Goals as goal
 
 pub returns-in-Ok-eq0-clause-whole : goal.returns-in-Ok-eq0-clause-whole
@@ -23,7 +23,7 @@ loop-all-preserved g c =
     record {
       read = rw c.in_ok-extend_from_slice-in-Ok.ensures.items (HasRead-more _ _ _ _ _ _ _ c.loop-all.invariant.read c.in-Ok.ensures.reads);
       within = omega (arith, c.loop-all.invariant.within, c.in_ok-extend_from_slice-in-Ok.ensures.len, length-take c.in-Ok.n c.read.new.buf);
-      count = omega (arith, c.loop-all.invariant.count, c.in-Ok.ensures.count);
+      steady = c.in-Ok.ensures.steady ∙ c.loop-all.invariant.steady;
     }
 
 pub returns-in_err-extend_from_slice-in-Ok-clause-rest : goal.returns-in_err-extend_from_slice-in-Ok-clause-rest

@@ -1,5 +1,5 @@
-use Rattle.std.proofs.Common.{◌-◌, ◌≤◌, vec_len}
-use Rattle.pls_io.proofs.Moves.{HasRead}
+use Rattle.std.proofs.Common.{◌≡◌, ◌-◌, ◌≤◌, vec_len}
+use Rattle.pls_io.proofs.Transfers.{HasRead}
 use Rattle.pls_io.proofs.read.read_pieces.Given as goal
 
 abbrev pub invariant-loop-all : goal.invariant-loop-all
@@ -7,7 +7,7 @@ invariant-loop-all g l =
     record {
       read : HasRead l.all.items (g.S.Source.left l.fn.source) (g.S.Source.left l.source);
       within : vec_len l.all ≤ l.limit;
-      count : g.S.Source.faults l.fn.source ≤ g.S.Source.faults l.source;
+      steady : g.S.Source.faults l.source ≡ g.S.Source.faults l.fn.source;
     }
 
 abbrev pub decreases-loop-all : goal.decreases-loop-all

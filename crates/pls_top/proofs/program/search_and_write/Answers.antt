@@ -1,8 +1,8 @@
 use Rattle.std.proofs.Common.{◌∙◌}
-use Rattle.pls_top.proofs.Endings.{search_finishes}
+use Rattle.pls_top.proofs.Serving.{finishes_searched}
 use Rattle.pls_top.proofs.program.search_and_write.Goals as goal
 
 pub returns-clause-finishes : goal.returns-clause-finishes
 returns-clause-finishes g c =
-    search_finishes c.args.instance.now c.in-Ok.outcome c.in-Ok.ensures c.from.result c.from.ensures
+    finishes_searched c.args.settings.now c.args.instance.now c.in-Ok.outcome c.in-Ok.ensures c.from.result c.from.ensures
     c.as_slice.result.now (c.as_slice.ensures.value ∙ c.in-Ok-report_text.ensures) _ _ _ _ _ c.finish.ensures.finishes

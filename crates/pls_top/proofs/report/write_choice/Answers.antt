@@ -1,15 +1,15 @@
 use Rattle.std.proofs.Common.{string_bytes, sym, ◌∙◌, ap, arith}
 use Rattle.pls_top.proofs.Joined.{item_written, item_left, choice_written, no_choice_written}
 use Rattle.pls_top.proofs.report.write_choice.Goals as goal
-use Rattle.pls_top.proofs.report.write_choice.Goals.{then-bit+in_ok-write_item, else-bit}
+use Rattle.pls_top.proofs.report.write_choice.Goals.{then-bit+in_ok-push_word, else-bit}
 
 pub loop-i-preserved : goal.loop-i-preserved
 loop-i-preserved c =
     elim c.if-bit.branch [
-      | then-bit+in_ok-write_item w ↦
+      | then-bit+in_ok-push_word w ↦
           item_written c.args.choice.now (string_bytes c.args.text.now) (string_bytes c.loop-i.text) c.loop-i.any c.loop-i.i
           c.loop-i.invariant (string_bytes c.if-bit.text) c.if-bit.any
-          (sym c.bit.ensures ∙ w.if-bit.true) (ap string_bytes w.text-is ∙ w.in_ok-write_item.ensures) w.any-is
+          (sym c.bit.ensures ∙ w.if-bit.true) (ap string_bytes w.text-is ∙ w.in_ok-push_word.ensures) w.any-is
       | else-bit w ↦
           item_left c.args.choice.now (string_bytes c.args.text.now) (string_bytes c.loop-i.text) c.loop-i.any c.loop-i.i
           c.loop-i.invariant (string_bytes c.if-bit.text) c.if-bit.any

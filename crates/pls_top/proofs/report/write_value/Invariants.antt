@@ -1,6 +1,6 @@
 use Rattle.std.proofs.Common.{take, string_bytes}
 use Rattle.std.specs.Fmt.{signed_decimal}
-use Rattle.pls_top.proofs.Joined.{Joins}
+use Rattle.pls_io.proofs.Joins.{Joins}
 use Rattle.pls_top.proofs.report.write_value.Given as goal
 
 abbrev pub invariant-loop-k : goal.invariant-loop-k

@@ -1,4 +1,4 @@
-use Rattle.pls_io.proofs.Runs.{words-are_runs}
+use Rattle.pls_io.proofs.LongestRuns.{words-are_runs}
 use Rattle.pls_io.proofs.words.Tokens.new.Goals as goal
 
 pub returns-clause-runs : goal.returns-clause-runs

@@ -6,7 +6,7 @@ use Rattle.pls_knapsack.proofs.Points.{flips_from-given, flips_from-none, flips_
 use Rattle.pls_knapsack.proofs.knapsack.Knapsack.find_flip.Goals as goal
 
 pub can_flip-requires-clause-limits : goal.can_flip-requires-clause-limits
-can_flip-requires-clause-limits c = subst (λ (k : Instance). IsWithinLimits k) c.self.view_is c.self.invariant
+can_flip-requires-clause-limits c = subst (λ (k : Instance). IsWithinLimits k) c.self.view_is c.self.invariant.limits
 
 pub returns-then-can_flip-clause-step : goal.returns-then-can_flip-clause-step
 returns-then-can_flip-clause-step c =
@@ -28,7 +28,7 @@ loop-walk-preserved c =
     let q = flipped w.start.sol w.flip in
     let fails : feasible k q ≡ false = sym c.can_flip.ensures ∙ c.if-can_flip.false in
     record {
-      made = record { start = walk.made.start; reduced = walk.made.reduced; smaller = walk.made.smaller };
+      made = record { start = walk.made.start; reduced = walk.made.reduced; smaller = walk.made.smaller; item_in = walk.made.item_in };
       same = flips_from-none k w.start.sol w.flip None below (point_if-infeasible k q fails) refl ∙ walk.same;
       exchanges = walk.exchanges;
     }

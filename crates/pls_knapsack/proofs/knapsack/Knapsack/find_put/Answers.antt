@@ -41,7 +41,7 @@ loop-walk-preserved c =
           let q = with_item w.reduced.sol w.put true in
           let fails : feasible k q ≡ false = sym b.fits.ensures ∙ b.if-fits.false in
           record {
-            made = record { start = walk.made.start; reduced = walk.made.reduced; smaller = walk.made.smaller };
+            made = record { start = walk.made.start; reduced = walk.made.reduced; smaller = walk.made.smaller; item_in = walk.made.item_in };
             same = puts_from-none k w.start.sol w.reduced.sol w.put behind None below free (point_if-infeasible k q fails) refl ∙ walk.same;
             flips = walk.flips;
             take = walk.take;
@@ -49,7 +49,7 @@ loop-walk-preserved c =
       | else-not-bit-via-else-not-bit b ↦
           let taken : chosen w.start.sol w.put ≡ true = sym c.bit.ensures ∙ b.if-not-bit.false in
           record {
-            made = record { start = walk.made.start; reduced = walk.made.reduced; smaller = walk.made.smaller };
+            made = record { start = walk.made.start; reduced = walk.made.reduced; smaller = walk.made.smaller; item_in = walk.made.item_in };
             same = puts_from-skip k w.start.sol w.reduced.sol w.put behind below taken ∙ walk.same;
             flips = walk.flips;
             take = walk.take;

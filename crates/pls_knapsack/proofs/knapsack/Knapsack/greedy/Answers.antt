@@ -1,6 +1,6 @@
 use Rattle.std.proofs.Common.{◌≡◌, ◌≢◌, ◌+◌, true, false, slice_index, drop, refl, ap, sym, ◌∙◌, arith}
 use Rattle.pls_vectors.specs.Solution.{Solution, chosen, with_item, no_items}
-use Rattle.pls_knapsack.specs.Instance.{Instance, feasible, filled}
+use Rattle.pls_knapsack.specs.Instance.{feasible, filled}
 use Rattle.pls_knapsack.proofs.Greedy.{chosen-no_items, IsTally-no_items, filled-start, filled-takes, filled-passes, filled-end}
 use Rattle.pls_knapsack.proofs.knapsack.Knapsack.greedy.Goals as goal
 use Rattle.pls_knapsack.proofs.knapsack.Knapsack.greedy.Goals.{then-fits, else-fits}
@@ -8,10 +8,9 @@ use Rattle.pls_knapsack.proofs.knapsack.Knapsack.greedy.Goals.{then-fits, else-f
 pub loop-item-init : goal.loop-item-init
 loop-item-init c =
     let k = c.args.self.now in
-    let items = ap (λ (k : Instance). k.items) c.self.view_is in
-    let start : c.bits.result ≡ no_items k.items = c.bits.ensures ∙ ap (λ n. no_items n) items in
+    let start : c.bits.result ≡ no_items k.items = c.bits.ensures ∙ ap (λ n. no_items n) c.size.ensures.value in
     record {
-      tally = IsTally-no_items k _ start refl refl;
+      tally = IsTally-no_items k _ start refl c.capacities.ensures.value;
       rest = filled-start k c.bits.result c.args.order.now start;
       free = λ m _ _. ap (λ (s : Solution). chosen s (slice_index c.args.order.now m)) start ∙ chosen-no_items k.items (slice_index c.args.order.now m);
     }

@@ -14,7 +14,7 @@ bit-requires c =
 pub returns-then-bit-clause-made : goal.returns-then-bit-clause-made
 returns-then-bit-clause-made c =
     let made = c.requires.made in
-    record { start = made.start; reduced = c.without-walk.ensures.tally; smaller = c.without-walk.ensures.smaller }
+    record { start = made.start; reduced = c.take.ensures.tally; smaller = c.take.ensures.smaller; item_in = made.item_in }
 
 pub returns-then-bit-clause-same : goal.returns-then-bit-clause-same
 returns-then-bit-clause-same c =
@@ -22,7 +22,7 @@ returns-then-bit-clause-same c =
     let k = c.args.self.now in
     let taken : chosen w.start.sol w.take ≡ true = sym c.bit.ensures ∙ c.if-bit.true in
     let behind = exchanges_from k w.start.sol (w.take + 1) in
-    ap (λ (r : Solution). puts_from k.items w.start.sol r 0 ++ behind) c.without-walk.ensures.sol
+    ap (λ (r : Solution). puts_from k.items w.start.sol r 0 ++ behind) c.take.ensures.sol
     ∙ sym (exchanges-take k w.start.sol w.reduced.sol w.put w.take c.requires.done c.requires.item_in taken)
 
 pub returns-else-bit-clause-same : goal.returns-else-bit-clause-same

@@ -1,21 +1,22 @@
 use Rattle.std.proofs.Common.{◌-◌, arith, ◌∙◌}
 use Rattle.pls_archive.specs.declared.point.Point.{Point}
+use Rattle.pls_problem.specs.Walk.{current}
 use Rattle.pls_top.specs.Search.{Submits}
 use Rattle.pls_top.specs.declared.search.SearchState.{SearchState}
 use Rattle.pls_top.proofs.SearchRuns.{GoesOn-more, HasFeasible-submit, length-submit}
 use Rattle.pls_top.proofs.search.SearchState.explore.Goals as goal
 
-pub loop-neighbour-preserved : goal.loop-neighbour-preserved
-loop-neighbour-preserved c =
+pub loop-value-preserved : goal.loop-value-preserved
+loop-value-preserved c =
     let k = c.args.instance.now in
-    let now = c.loop-neighbour.self in
-    let after = c.submit.new.self in
-    let so_far = c.loop-neighbour.invariant in
-    let v = c.in-Some.neighbour.0 in
-    let s = c.in-Some.neighbour.1 in
+    let now = c.loop-value.self in
+    let after = c.submit_neighbour.new.self in
+    let so_far = c.loop-value.invariant in
+    let v = c.in-Some.value in
+    let s = current c.next_value.new.walk in
     let q : Point = record { value = v; sol = s } in
     let drawn : SearchState = record now { moves_left = now.moves_left - 1 } in
-    let submits : Submits q drawn after = c.in_ok-submit.ensures in
+    let submits : Submits q drawn after = c.in_ok-submit_neighbour.ensures in
     let long = length-submit q drawn after submits in
     record {
       walk = c.in-Some.ensures.made;

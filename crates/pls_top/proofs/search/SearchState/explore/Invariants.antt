@@ -1,11 +1,11 @@
 use Rattle.std.proofs.Common.{◌≡◌, ◌+◌, ◌≤◌, vec_len}
-use Rattle.pls_knapsack.specs.Walk.{IsWalkOf, left}
+use Rattle.pls_problem.specs.Walk.{IsWalkOf, left}
 use Rattle.pls_top.specs.Search.{HasFeasible}
 use Rattle.pls_top.proofs.SearchRuns.{GoesOn}
 use Rattle.pls_top.proofs.search.SearchState.explore.Given as goal
 
-abbrev pub invariant-loop-neighbour : goal.invariant-loop-neighbour
-invariant-loop-neighbour l = record {
+abbrev pub invariant-loop-value : goal.invariant-loop-value
+invariant-loop-value l = record {
   walk : IsWalkOf l.instance l.walk;
   tasks : HasFeasible l.instance l.self;
   goes_on : GoesOn l.instance l.task l.fn.self l.self (left l.instance l.walk);
@@ -14,5 +14,5 @@ invariant-loop-neighbour l = record {
   explored : l.self.explored ≡ l.fn.self.explored;
 }
 
-abbrev pub decreases-loop-neighbour : goal.decreases-loop-neighbour
-decreases-loop-neighbour l = l.self.moves_left
+abbrev pub decreases-loop-value : goal.decreases-loop-value
+decreases-loop-value l = l.self.moves_left
