@@ -1,0 +1,35 @@
+//! Tasks that workers share, and the desk at which a run of several workers is counted and halted.
+//!
+//! A [`Pool`] gives each task that was put to at most one seat. [`OneQueue`] keeps the tasks in one queue, and those that the
+//! queue hands back in a spare list of the seat that put them. After the joins one seat tells that what was taken is among what
+//! was put, and where no task is left that both are the same. `specs/TaskRule.antt` has the rule of the queue.
+//!
+//! A [`Desk`] counts the tasks that are not done, gives out the moves of a budget, and keeps the causes for which the run is
+//! halted. Each worker has a [`DeskSeat`]; after the joins one seat tells what all of them did. No call waits, and all but the
+//! start take no memory. `specs/DeskRule.antt` has the rule that holds between any two steps, in every schedule.
+#![tactic(auto)]
+
+mod cause;
+mod desk;
+mod desk_plays;
+mod desk_starts;
+mod desk_steps;
+#[cfg(test)]
+mod desk_tests;
+mod hand;
+mod laws;
+mod one_queue;
+mod one_queue_calls;
+mod one_queue_starts;
+mod pool;
+#[cfg(test)]
+mod pool_tests;
+mod sizes;
+mod tally;
+mod task_plays;
+
+pub use cause::{Cause, Draw};
+pub use desk::{Desk, DeskSeat};
+pub use laws::halted_keeps_cause;
+pub use one_queue::{OneQueue, QueueSeat};
+pub use pool::Pool;
