@@ -1,49 +1,120 @@
-#!/bin/sh
-# Times one of the programs beside this script, and the same in plain Rust: ./run.sh walk, or ./run.sh rows (see README.md).
+#!/usr/bin/env bash
+# Times one of the programs in the folders beside this script, and the same in plain Rust (see README.md):
+# ./run.sh lists the names, and ./run.sh NAME prints a table.
 set -eu
-name=$1
 here=$(cd "$(dirname "$0")" && pwd)
 rt=${RT:-rt}
 work=$(mktemp -d)
 trap 'rm -rf "$work"' EXIT
 
-# the crates that the program stands on, and the program
-mkdir "$work/crates"
-cp "$here/../HANDLES" "$work/"
-: > "$work/crates.txt"
-(cd "$work" && "$rt" new "crates/${name}_time" start_io > /dev/null)
-program="$work/crates/${name}_time"
-rm -rf "$program/src" "$program/stdin" "$program/stdout"
-mkdir "$program/src"
-cp "$here/$name/main.rt.txt" "$program/src/main.rt"
-for file in "$here/$name"/*.antt.txt; do
-    proof=$(basename "$file" .txt)
-    mkdir -p "$program/proofs/${proof%%.*}"
-    cp "$file" "$program/proofs/${proof%%.*}/${proof#*.}"
-done
-while read -r crate below; do
-    case $crate in
-        "${name}_time:") ;;
-        *)
+# Proves and builds the program of a folder, with copies of the crates that it stands on.
+build_program() {
+    mkdir "$work/crates"
+    cp "$here/../HANDLES" "$work/"
+    : > "$work/crates.txt"
+    (cd "$work" && "$rt" new "crates/$1_time" start_io > /dev/null)
+    program="$work/crates/$1_time"
+    rm -rf "$program/src" "$program/stdin" "$program/stdout"
+    mkdir "$program/src"
+    cp "$here/$1/main.rt.txt" "$program/src/main.rt"
+    for file in "$here/$1"/*.antt.txt; do
+        proof=$(basename "$file" .txt)
+        mkdir -p "$program/proofs/${proof%%.*}"
+        cp "$file" "$program/proofs/${proof%%.*}/${proof#*.}"
+    done
+    while read -r crate below; do
+        if [ "$crate" != "$1_time:" ]; then
             mkdir "$work/crates/${crate%:}"
             for part in src specs proofs; do
                 cp -r "$here/../crates/${crate%:}/$part" "$work/crates/${crate%:}/"
             done
-            ;;
-    esac
-    echo "$crate $below" >> "$work/crates.txt"
-done < "$here/$name/stands_on.txt"
+        fi
+        echo "$crate $below" >> "$work/crates.txt"
+    done < "$here/$1/stands_on.txt"
+    (cd "$work" && "$rt" all check) > "$work/log" 2>&1 || { tail -n 20 "$work/log"; exit 1; }
+    (cd "$program" && "$rt" run) > "$work/log" 2>&1 || { tail -n 20 "$work/log"; exit 1; }
+    ours="$program/out/$1_time"
+}
 
-(cd "$work" && "$rt" all check > "$work/check.log" 2>&1) || { tail -n 20 "$work/check.log"; exit 1; }
-(cd "$program" && "$rt" run 2>&1) | grep ' us' > "$work/times"
-if command -v rustc > /dev/null; then
-    rustc -O --edition 2024 -o "$work/plain" "$here/$name/plain.rs"
-    "$work/plain" >> "$work/times"
-fi
-cat "$work/times"
+# Builds the same in plain Rust, for the level of processors that the kit builds for.
+build_plain() {
+    plain="$work/plain"
+    rustc -O -C target-cpu=x86-64-v2 --edition 2024 -o "$plain" "$here/$1/plain.rs"
+}
 
-# a line is "LABEL: MICROSECONDS us ..", and the line in plain Rust has the same label with "in plain Rust" behind it
-awk -F ': ' '
-    { split($2, time, " ") }
-    / in plain Rust: / { sub(/ in plain Rust$/, "", $1); printf "%s, to plain Rust: %.1f\n", $1, ours[$1] / time[1]; next }
-    { ours[$1] = time[1] }' "$work/times"
+# Searches an instance; the status is 1 where the moves were spent before the end.
+search_once() {
+    "$1" search --moves 100000 < "$2" > "$work/text" || [ $? -eq 1 ]
+}
+
+# Searches each instance by a program ten times: a line has the user's time of one search in microseconds, which is
+# told in thousandths of a second, and a checksum of what was printed.
+search_each() {
+    TIMEFORMAT=%U
+    ls -v "$work/instances" | while read -r shape; do
+        { time for _ in {1..10}; do search_once "$1" "$work/instances/$shape"; done; } 2> "$work/time"
+        echo "$shape: $(awk '{ print 100000 * $1 }' "$work/time") : $(cksum < "$work/text")"
+    done
+}
+
+# Runs two commands in turn so many times, and prints for each line the least times, and their ratios. A line is
+# "LABEL: TIME .. : OUTPUT", and the output has to be the same each time.
+compare() {
+    for ((i = 0; i < ${RUNS:-$1}; i++)); do
+        $2 >> "$work/ours"
+        $3 >> "$work/theirs"
+    done
+    awk -F ' *: *' '
+        {
+            side = FILENAME ~ /ours$/ ? 1 : 2
+            if (!($1 in output)) { label[++labels] = $1; output[$1] = $3 }
+            if (output[$1] != $3) { print "the outputs differ at " $1; differs = 1; exit }
+            times = split($2, time, " ")
+            for (t = 1; t <= times; t++)
+                if (!((side, $1, t) in least) || time[t] < least[side, $1, t]) least[side, $1, t] = time[t]
+        }
+        END {
+            if (differs) exit 1
+            for (l = 1; l <= labels; l++) {
+                line = sprintf("%-46s", label[l])
+                for (t = 1; t <= times; t++) {
+                    a = least[1, label[l], t]
+                    b = least[2, label[l], t]
+                    line = line sprintf(" %9d %9d %6.2f", a, b, a / b)
+                    logs[t] += log(a / b)
+                }
+                print line
+            }
+            line = sprintf("%-46s", "geometric mean")
+            for (t = 1; t <= times; t++) line = line sprintf(" %26.2f", exp(logs[t] / labels))
+            print line
+        }' "$work/ours" "$work/theirs"
+}
+
+case ${1:-} in
+    '')
+        for folder in "$here"/*/; do basename "$folder"; done
+        ;;
+    rows | walk)
+        build_program "$1"
+        build_plain "$1"
+        compare 40 "$ours" "$plain"
+        ;;
+    search)
+        build_plain search
+        mkdir "$work/instances"
+        for items in 20 60 100 256; do
+            for objectives in 2 3 4; do
+                for rules in 1 8; do
+                    "$plain" make $items $objectives $rules > "$work/instances/$items $objectives $rules"
+                done
+            done
+        done
+        "$here/../plsnd" search < "$here/../examples/two_items.txt" > "$work/text"
+        compare 5 "search_each $here/../crates/plsnd/out/plsnd" "search_each $plain"
+        ;;
+    *)
+        echo "no folder $1" >&2
+        exit 2
+        ;;
+esac
