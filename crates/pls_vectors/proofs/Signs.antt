@@ -43,10 +43,10 @@ difference-fits x y p q = grind (arith, ints)
 difference-clear : (x y : ℤ) → IsTrue (is_part x) → IsTrue (is_part y) → nat_lt (difference x y) (2 ^ 63) ≡ int_le y x
 difference-clear x y p q = grind (arith, ints)
 
-abbrev place : List ℤ → ℕ → ℤ
+abbrev pub place : List ℤ → ℕ → ℤ
 place xs k = slice_index_or xs k (pos 0)
 
-four_places : (xs : List ℤ) → length xs ≡ 4 → xs ≡ place xs 0 ∷ place xs 1 ∷ place xs 2 ∷ place xs 3 ∷ []
+pub four_places : (xs : List ℤ) → length xs ≡ 4 → xs ≡ place xs 0 ∷ place xs 1 ∷ place xs 2 ∷ place xs 3 ∷ []
 four_places [] e = absurd (omega arith)
 four_places (a ∷ []) e = absurd (omega arith)
 four_places (a ∷ b ∷ []) e = absurd (omega arith)

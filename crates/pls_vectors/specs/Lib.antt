@@ -3,3 +3,5 @@ pub mod Archive
 pub mod ArchiveLaws
 pub mod Solution
 pub mod Vector
+pub mod Limits
+pub mod Box

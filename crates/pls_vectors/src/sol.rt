@@ -1,11 +1,12 @@
-ghost use Rattle.std.specs.Prelude.{◌≡◌, ◌≢◌, ℕ, ◌<◌, ◌≤◌, slice_index, length};
-ghost use Rattle.pls_vectors.specs.Solution.{chosen, with_bit, with_item, no_items};
+ghost use Rattle.std.specs.Prelude.{◌≡◌, ◌≢◌, ℕ, ◌<◌, ◌≤◌, All, slice_index, length};
+ghost use Rattle.pls_vectors.specs.Solution.{chosen, with_bit, with_item, no_items, byte, with_byte, entry, with_entry, stored, order, swapped, reversed};
 
 use std::marker::Model;
 
 /// A solution of at most 256 items or places, stored in 32 words of 64 bits.
 ///
-/// Item `i` of a choice is one bit, number `i mod 64` from the least in word `i / 64`.
+/// Item `i` of a choice is one bit, number `i mod 64` from the least in word `i / 64`. Entry `i` of a
+/// permutation is one byte, number `i mod 8` from the least in word `i / 8`.
 #[derive(Clone, Copy, Debug, PartialEq, Eq)]
 pub struct Sol {
     len: usize,
@@ -74,6 +75,96 @@ impl Sol {
         let k = (i / 64) as usize;
         self.words[k] = with_bit(self.words[k], i % 64, on);
     }
+
+    /// The permutation of `n` entries in which entry `i` is `i`.
+    pub fn order(n: u16) -> Sol
+        requires some { 1 ≤ n }
+        requires few { n ≤ 256 }
+        ensures { result ≡ order n }
+    {
+        let mut sol = Sol::bits(n);
+        for i in 0..n {
+            sol.set_entry(i, i as u8);
+        }
+        sol
+    }
+
+    /// The permutation with these entries.
+    pub fn of_entries(entries: &[u16]) -> Sol
+        requires some { 1 ≤ length entries.now }
+        requires few { length entries.now ≤ 256 }
+        requires bytes { All (λ x. x < 256) entries.now }
+        ensures { result ≡ stored entries.now }
+    {
+        let n = entries.len() as u16;
+        let mut sol = Sol::bits(n);
+        for i in 0..n {
+            sol.set_entry(i, entries[i as usize] as u8);
+        }
+        sol
+    }
+
+    /// Entry `i` of a permutation, which is 0 from its length on.
+    pub fn entry(&self, i: u16) -> u8
+        requires { i < 256 }
+        ensures { result ≡ entry self.now i }
+    {
+        byte(self.words[(i / 8) as usize], i % 8)
+    }
+
+    /// Exchanges entries `i` and `j`.
+    pub fn swap(&mut self, i: u16, j: u16)
+        requires i_in { i < self.old.len }
+        requires j_in { j < self.old.len }
+        ensures { self.new ≡ swapped self.old i j }
+    {
+        let _ = &self.len;
+        let entry = self.entry(i);
+        self.set_entry(i, self.entry(j));
+        self.set_entry(j, entry);
+    }
+
+    /// Reverses the entries at `i` to `j`, both included.
+    pub fn reverse(&mut self, i: u16, j: u16)
+        requires order { i ≤ j }
+        requires within { j < self.old.len }
+        ensures { self.new ≡ reversed self.old i j }
+    {
+        let _ = &self.len;
+        let mut low = i;
+        let mut high = j;
+        while low < high {
+            self.swap(low, high);
+            low += 1;
+            high -= 1;
+        }
+    }
+
+    /// Puts another entry at place `i`.
+    fn set_entry(&mut self, i: u16, x: u8)
+        requires { i < 256 }
+        ensures { self.new ≡ with_entry self.old i x }
+    {
+        let k = (i / 8) as usize;
+        self.words[k] = with_byte(self.words[k], i % 8, x);
+    }
+}
+
+/// Byte `k` of a word.
+fn byte(word: u64, k: u16) -> u8
+    requires { k < 8 }
+    ensures { result ≡ byte word k }
+{
+    (word >> (8 * k) & 255) as u8
+}
+
+/// The word with another byte `k`.
+fn with_byte(word: u64, k: u16, x: u8) -> u64
+    requires { k < 8 }
+    ensures { result ≡ with_byte word k x }
+{
+    let shift = 8 * k;
+    word - ((byte(word, k) as u64) << shift) + ((x as u64) << shift)
 }
 
 /// The word with its bit `k` set, or cleared.
@@ -119,5 +210,64 @@ mod tests {
         items.set_bit(0, false);
         assert_eq!(rt; [items.word(0), items.word(1)], [0x8000_0000_0000_0000, 1]);
         assert_eq!(rt; items.len(), 65);
+    }
+
+    #[test]
+    fn stores_entries_as_bytes(rt: HostRuntime) {
+        // the place, its word, and that word of the order of 256 entries
+        let cases = [
+            (0, 0, 0x0706_0504_0302_0100),
+            (7, 0, 0x0706_0504_0302_0100),
+            (8, 1, 0x0f0e_0d0c_0b0a_0908),
+            (255, 31, 0xfffe_fdfc_fbfa_f9f8),
+        ];
+        for (place, word, packed) in cases {
+            let order = Sol::order(256);
+            assert_eq!(rt; order.entry(place) as u16, place, "entry {place}");
+            assert_eq!(rt; order.word(word), packed, "the word of {place}");
+        }
+        assert_eq!(rt; Sol::of_entries(&[0, 1, 2]), Sol::order(3));
+        assert_eq!(rt; Sol::of_entries(&[2, 0]).word(0), 2);
+    }
+
+    #[test]
+    fn exchanges_and_reverses_entries(rt: HostRuntime) {
+        // two places, and ten entries in order after they are exchanged, and after the stretch is reversed
+        let cases: [(u16, u16, [u16; 10], [u16; 10]); 4] = [
+            (
+                0,
+                9,
+                [9, 1, 2, 3, 4, 5, 6, 7, 8, 0],
+                [9, 8, 7, 6, 5, 4, 3, 2, 1, 0],
+            ),
+            (
+                1,
+                8,
+                [0, 8, 2, 3, 4, 5, 6, 7, 1, 9],
+                [0, 8, 7, 6, 5, 4, 3, 2, 1, 9],
+            ),
+            (
+                2,
+                4,
+                [0, 1, 4, 3, 2, 5, 6, 7, 8, 9],
+                [0, 1, 4, 3, 2, 5, 6, 7, 8, 9],
+            ),
+            (
+                5,
+                5,
+                [0, 1, 2, 3, 4, 5, 6, 7, 8, 9],
+                [0, 1, 2, 3, 4, 5, 6, 7, 8, 9],
+            ),
+        ];
+        for (i, j, exchanged, reversed) in cases {
+            let mut sol = Sol::order(10);
+            assert!(rt; i < sol.len() && j < sol.len());
+            sol.swap(i, j);
+            assert_eq!(rt; sol, Sol::of_entries(&exchanged), "{i} and {j} exchanged");
+            let mut sol = Sol::order(10);
+            assert!(rt; i <= j && j < sol.len());
+            sol.reverse(i, j);
+            assert_eq!(rt; sol, Sol::of_entries(&reversed), "{i} to {j} reversed");
+        }
     }
 }

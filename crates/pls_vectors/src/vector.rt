@@ -3,6 +3,7 @@ ghost use Rattle.std.specs.List.{list_all};
 ghost use Rattle.std.specs.Ordering.{int_cmp};
 ghost use Rattle.std.specs.Cmp.Lexicographic.{slice_cmp};
 ghost use Rattle.pls_vectors.specs.Archive.{dominates};
+ghost use Rattle.pls_vectors.specs.Box.{greater, smaller, at_each};
 ghost use Rattle.pls_vectors.specs.Dominance.{weakly_dominates, is_part, IsValue};
 ghost use Rattle.pls_vectors.specs.Vector.{places_of};
 
@@ -10,7 +11,7 @@ use std::cmp::Ordering;
 use std::marker::Model;
 
 /// The greatest number of parts.
-const MOST_PARTS: usize = 4;
+pub(crate) const MOST_PARTS: usize = 4;
 
 /// The greatest size of a part.
 const PART_BOUND: i64 = 1 << 40;
@@ -85,6 +86,36 @@ impl Vector {
         places[k]
     }
 
+    /// The parts, and 0 at each place past them.
+    pub(crate) fn places(&self) -> &[i64; MOST_PARTS]
+        ensures value { result.now ≡ places_of self.now }
+        ensures in_range { IsTrue (list_all is_part result.now) }
+    {
+        &self.parts
+    }
+
+    /// The vector of the greater part at each place.
+    pub fn upper(&self, other: &Vector) -> Vector
+        requires { length self.now ≡ length other.now }
+        ensures { result ≡ at_each greater self.now other.now }
+    {
+        Vector {
+            len: self.len,
+            parts: greater_at_each(&self.parts, &other.parts),
+        }
+    }
+
+    /// The vector of the smaller part at each place.
+    pub fn lower(&self, other: &Vector) -> Vector
+        requires { length self.now ≡ length other.now }
+        ensures { result ≡ at_each smaller self.now other.now }
+    {
+        Vector {
+            len: self.len,
+            parts: smaller_at_each(&self.parts, &other.parts),
+        }
+    }
+
     /// Whether every part is at least the other's: weak dominance.
     pub fn covers(&self, other: &Vector) -> bool
         requires { length self.now ≡ length other.now }
@@ -119,6 +150,44 @@ fn at_least(a: &[i64; MOST_PARTS], b: &[i64; MOST_PARTS]) -> bool
     ensures { result ≡ weakly_dominates a.now b.now }
 {
     ((a[0] - b[0]) | (a[1] - b[1]) | (a[2] - b[2]) | (a[3] - b[3])) >= 0
+}
+
+fn greater_at_each(a: &[i64; MOST_PARTS], b: &[i64; MOST_PARTS]) -> [i64; MOST_PARTS]
+    requires a_in_range { IsTrue (list_all is_part a.now) }
+    requires b_in_range { IsTrue (list_all is_part b.now) }
+    ensures { result ≡ at_each greater a.now b.now }
+{
+    [
+        greater(a[0], b[0]),
+        greater(a[1], b[1]),
+        greater(a[2], b[2]),
+        greater(a[3], b[3]),
+    ]
+}
+
+fn smaller_at_each(a: &[i64; MOST_PARTS], b: &[i64; MOST_PARTS]) -> [i64; MOST_PARTS]
+    requires a_in_range { IsTrue (list_all is_part a.now) }
+    requires b_in_range { IsTrue (list_all is_part b.now) }
+    ensures { result ≡ at_each smaller a.now b.now }
+{
+    [
+        smaller(a[0], b[0]),
+        smaller(a[1], b[1]),
+        smaller(a[2], b[2]),
+        smaller(a[3], b[3]),
+    ]
+}
+
+fn greater(x: i64, y: i64) -> i64
+    ensures { result ≡ greater x y }
+{
+    if x <= y { y } else { x }
+}
+
+fn smaller(x: i64, y: i64) -> i64
+    ensures { result ≡ smaller x y }
+{
+    if x <= y { x } else { y }
 }
 
 /// Whether these are two to four parts, each in range.

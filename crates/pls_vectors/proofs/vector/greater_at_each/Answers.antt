@@ -1,0 +1,13 @@
+use Rattle.std.proofs.Common.{rules, w64, ◌∙◌}
+use Rattle.std.proofs.lemmas.Int.{to_z-of_z}
+use Rattle.pls_vectors.specs.Box.{greater}
+use Rattle.pls_vectors.proofs.Boxes.{at_each-four}
+use Rattle.pls_vectors.proofs.vector.greater_at_each.Goals as goal
+
+pub returns : goal.returns
+returns c =
+    at_each-four greater c.args.a.now c.args.b.now c.told-a c.told-b c.requires.a_in_range c.requires.b_in_range
+    (to_z-of_z w64 c.greater.result (search rules) ∙ c.greater.ensures)
+    (to_z-of_z w64 c.greater-2.result (search rules) ∙ c.greater-2.ensures)
+    (to_z-of_z w64 c.greater-3.result (search rules) ∙ c.greater-3.ensures)
+    (to_z-of_z w64 c.greater-4.result (search rules) ∙ c.greater-4.ensures)
