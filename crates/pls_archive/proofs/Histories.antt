@@ -1,5 +1,5 @@
 -- The submissions and the accepted points of a history with one more call.
-use Rattle.std.proofs.Common.{◌≡◌, ℕ, ℤ, List, [], ◌∷◌, ◌++◌, length, ap, ◌∙◌}
+use Rattle.std.proofs.Common.{◌≡◌, ℕ, ℤ, List, [], ◌∷◌, ◌++◌, ap, ◌∙◌}
 use Rattle.std.proofs.lemmas.List.{append-nil}
 use Rattle.std.proofs.lemmas.List.Concat.{flat_map-append}
 use Rattle.pls_archive.specs.declared.point.Point.{Point}
@@ -8,7 +8,8 @@ use Rattle.pls_archive.specs.declared.call.Call.TheVariants.{Update, Covered, Me
 use Rattle.pls_archive.specs.declared.call.Reply.{Reply}
 use Rattle.pls_archive.specs.declared.call.Reply.TheVariants.{Added, Refused}
 use Rattle.pls_archive.specs.declared.call.Entry.{Entry}
-use Rattle.pls_archive.specs.History.{submitted_by, accepted_by, submissions, accepted, next_entry, with_call}
+use Rattle.pls_archive.specs.Rule.{submitted_by, accepted_by}
+use Rattle.pls_archive.specs.History.{submissions, accepted, next_entry, with_call}
 
 -- of two histories, one after the other
 pub submissions-append : (xs ys : List Entry) → submissions (xs ++ ys) ≡ submissions xs ++ submissions ys
@@ -67,7 +68,3 @@ module _ (reply : List Point → Call → Reply) (caller : ℕ) (history : List 
 
   pub accepted-with_snapshot : accepted (with_call reply caller history Snapshot) ≡ accepted history
   accepted-with_snapshot = accepted-with_call Snapshot ∙ append-nil (accepted history)
-
-  -- a call that is no update is stamped with the number of accepted points
-  pub stamp-of_member : (v : List ℤ) → (next_entry reply caller history (Member v)).stamp ≡ length (accepted history)
-  stamp-of_member v = ap length (append-nil (accepted history))

@@ -15,7 +15,7 @@ use Rattle.pls_vectors.specs.Solution.{no_items}
 use Rattle.pls_vectors.proofs.ArchiveOfMembers.{archive-incomparable}
 use Rattle.pls_archive.specs.declared.point.Point.{Point}
 use Rattle.pls_archive.specs.Reply.{members, put_in_order, in_order}
-use Rattle.pls_archive.proofs.Members.{point_weakly_dominates-IsPreorder}
+use Rattle.pls_archive.specs.NondominatedRule.{point_weakly_dominates-IsPreorder}
 use Rattle.pls_archive.proofs.Sorted.{same_from_sorted, strictly_from_sorted, BeginsFrom, BeginsFrom-sorted, IsSorted-nil, IsSorted-cons, IsSorted-rest}
 
 -- the lexicographic order of the values of points

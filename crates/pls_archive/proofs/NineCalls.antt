@@ -11,11 +11,11 @@ use Rattle.pls_archive.specs.Reply.{nondominated}
 
 -- Nine calls on a new archive, with the replies and stamps that are due.
 
-abbrev two_parts : ℕ → ℕ → List ℤ
+abbrev pub two_parts : ℕ → ℕ → List ℤ
 two_parts x y = pos x ∷ pos y ∷ []
 
 -- a point with a solution among n items
-abbrev point : ℕ → ℕ → ℕ → Point
+abbrev pub point : ℕ → ℕ → ℕ → Point
 point x y n = record { value = two_parts x y; sol = no_items n }
 
 abbrev nine_calls : List Call

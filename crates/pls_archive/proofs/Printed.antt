@@ -1,5 +1,5 @@
 -- The members in order: what holds of the members holds of them.
-use Rattle.std.proofs.Common.{◌≡◌, ℤ, zero, suc, Bool, true, ◌||◌, List, [], ◌∷◌, IsTrue, All, ap, sym, ◌∙◌, arith}
+use Rattle.std.proofs.Common.{◌≡◌, ℤ, zero, suc, Bool, ◌||◌, List, [], ◌∷◌, IsTrue, All, ap, sym, ◌∙◌, arith}
 use Rattle.std.proofs.Math.Bool.{or-true, true-or}
 use Rattle.std.specs.Prelude.{AllPairs, Contains}
 use Rattle.std.specs.Ordering.{is_gt}
@@ -16,7 +16,7 @@ use Rattle.pls_archive.specs.declared.point.Point.{Point}
 use Rattle.pls_archive.specs.Reply.{point_weakly_dominates, members, some_weakly_dominates, put_in_order, in_order}
 use Rattle.pls_archive.specs.RunLaws.{IsParetoLocalOptimum, IsParetoLocalOptimumSet}
 use Rattle.pls_archive.proofs.InOrder.{by_value, put_in_order-IsPermutation, in_order-IsPermutation}
-use Rattle.pls_archive.proofs.Members.{point_weakly_dominates-IsPreorder, some_weakly_dominates-members}
+use Rattle.pls_archive.specs.NondominatedRule.{point_weakly_dominates-IsPreorder, some_weakly_dominates-members}
 
 -- a relation between all pairs, whichever of the two is first
 module _ (R : Point → Point → Type 0) (either : (p q : Point) → R p q → R q p) where

@@ -1,29 +1,13 @@
-use Rattle.std.specs.Prelude.{◌≡◌, ℕ, ℤ, List, [], ◌∷◌, ◌++◌, length}
+-- Histories of calls with their replies, and which of them are legal.
+use Rattle.std.specs.Prelude.{◌≡◌, ℕ, ◌+◌, Bool, List, [], ◌∷◌, ◌++◌, length, map, filter}
 use Rattle.std.specs.List.{flat_map}
 use Rattle.pls_archive.specs.declared.point.Point.{Point}
 use Rattle.pls_archive.specs.declared.call.Call.{Call}
-use Rattle.pls_archive.specs.declared.call.Call.TheVariants.{Update, Covered, Member, Snapshot}
+use Rattle.pls_archive.specs.declared.call.Call.TheVariants.{Update}
 use Rattle.pls_archive.specs.declared.call.Reply.{Reply}
-use Rattle.pls_archive.specs.declared.call.Reply.TheVariants.{Added, Refused, Yes, No, Points}
 use Rattle.pls_archive.specs.declared.call.Entry.{Entry}
-
--- the points that a call submits
-abbrev pub submitted_by : Call → List Point
-submitted_by (Update p) = p ∷ []
-submitted_by (Covered v) = []
-submitted_by (Member v) = []
-submitted_by Snapshot = []
-
--- the points that a call with this reply brought into the archive
-abbrev pub accepted_by : Call → Reply → List Point
-accepted_by (Update p) (Added removed) = p ∷ []
-accepted_by (Update p) Refused = []
-accepted_by (Update p) Yes = []
-accepted_by (Update p) No = []
-accepted_by (Update p) (Points points) = []
-accepted_by (Covered v) reply = []
-accepted_by (Member v) reply = []
-accepted_by Snapshot reply = []
+use Rattle.pls_archive.specs.Lists.{one_if}
+use Rattle.pls_archive.specs.Rule.{submitted_by, accepted_by, is_accepting}
 
 -- the submissions of a history, in order
 abbrev pub submissions : List Entry → List Point
@@ -33,26 +17,23 @@ submissions history = flat_map (λ e. submitted_by e.call) history
 abbrev pub accepted : List Entry → List Point
 accepted history = flat_map (λ e. accepted_by e.call e.reply) history
 
--- the values that a call asks for among those of the members
-abbrev pub asked_by : Call → List (List ℤ)
-asked_by (Update p) = []
-asked_by (Covered v) = []
-asked_by (Member v) = v ∷ []
-asked_by Snapshot = []
+-- an entry that brought something in
+abbrev pub accepts : Entry → Bool
+accepts e = is_accepting e.call e.reply
 
--- the values that a history asks for among those of the members, in order
-abbrev pub values_asked : List Entry → List (List ℤ)
-values_asked history = flat_map (λ e. asked_by e.call) history
+-- the accepting entries of a history, in order
+abbrev pub accepting : List Entry → List Entry
+accepting history = filter accepts history
 
 -- What an archive replies, as a function of the submissions before the call.
 module _ (reply : List Point → Call → Reply) where
-  -- the entry that a call adds to a legal history
+  -- the entry that a call adds to a legal history: its stamp counts the accepting entries up to it
   abbrev pub next_entry : ℕ → List Entry → Call → Entry
   next_entry caller history call =
       let answer = reply (submissions history) call in
       record {
         caller = caller;
-        stamp = length (accepted history ++ accepted_by call answer);
+        stamp = length (accepting history) + one_if (is_accepting call answer);
         call = call;
         reply = answer;
       }
@@ -60,6 +41,16 @@ module _ (reply : List Point → Call → Reply) where
   -- the history with one more call
   abbrev pub with_call : ℕ → List Entry → Call → List Entry
   with_call caller history call = history ++ next_entry caller history call ∷ []
+
+  -- the entries of these calls, made one after another
+  abbrev pub calling : ℕ → List Entry → List Call → List Entry
+  calling caller history [] = []
+  calling caller history (call ∷ calls) =
+      next_entry caller history call ∷ calling caller (with_call caller history call) calls
+
+  -- the entries of these submissions, made one after another
+  abbrev pub submitting : ℕ → List Entry → List Point → List Entry
+  submitting caller history points = calling caller history (map Update points)
 
   -- entries that go on from a history as a legal sequential history does
   abbrev pub ContinuesLegally : List Entry → List Entry → Type 0

@@ -1,4 +1,14 @@
+pub mod Lists
 pub mod Reply
+pub mod Rule
 pub mod History
-pub mod Run
+pub mod Serialization
+pub mod View
+pub mod Explorations
+pub mod SearchRun
+pub mod Sequential
 pub mod RunLaws
+pub mod Archives
+pub mod SharedCalls
+pub mod NondominatedRule
+pub mod Plain

@@ -6,7 +6,7 @@ use pls_vectors::Vector;
 pub enum Call {
     /// The point is submitted.
     Update(Point),
-    /// Is the value weakly dominated by that of a submitted point?
+    /// Is the value covered, so that a point of that value would not be brought in?
     Covered(Vector),
     /// Is the value that of a member of the archive?
     Member(Vector),
@@ -20,7 +20,7 @@ pub enum Reply {
     /// The submitted point is now a member, and this many members that it dominates no longer are
     /// (`2^32 - 1` where there are more).
     Added { removed: u32 },
-    /// A submitted point weakly dominates the one submitted now.
+    /// The point is not brought in: in a nondominated archive, a submitted point weakly dominates it.
     Refused,
     Yes,
     No,
@@ -36,8 +36,8 @@ pub enum Taken {
 
 /// A call in a history, with its caller, its stamp and its reply.
 ///
-/// An accepted update is stamped with its rank among the accepted ones, counted from 1; any other
-/// call with how many had been accepted when it took effect.
+/// An accepting entry, which brought something in, is stamped with its rank among the accepting ones, counted from 1; any
+/// other with how many accepting entries there were when it took effect.
 #[derive(Debug, Drop)]
 pub struct Entry {
     pub caller: u32,

@@ -1,22 +1,32 @@
-ghost use Rattle.std.specs.Prelude.{List};
 ghost use Rattle.std.specs.Cmp.Lexicographic.{slice_cmp};
 ghost use Rattle.std.specs.List.Sorted.{IsPermutation, IsSortedByKey};
 ghost use Rattle.std.specs.Ordering.{int_cmp};
-ghost use Rattle.std.specs.Prelude.{◌≡◌};
+ghost use Rattle.std.specs.Prelude.{◌≡◌, ℕ, List};
 ghost use Rattle.pls_archive.specs.declared.call.Call.{Call};
 ghost use Rattle.pls_archive.specs.declared.call.Reply.{Reply};
 ghost use Rattle.pls_archive.specs.declared.point.Point.{Point};
 ghost use Rattle.pls_archive.specs.Reply.{members, in_order};
-ghost use Rattle.pls_archive.specs.RunLaws.{RunsLegally, HasEnoughFuel, ExploresAllAccepted, DrawsMoves, IsCutWithoutMoves, EndsInLocalOptima};
+ghost use Rattle.pls_archive.specs.RunLaws.{KeepsOwnOrder, KeepsTotals, CountsAccepting, ViewsAreSequentiallyConsistent, HoldsInOrder, AcceptsValuesOnce, CallersAcceptValuesOnce, TellsFront, StopsWithMore, RunsSequentially, IsOnlySequentialRun, ClosesFront, EndsInLocalOptima};
 
-/// The laws of the sequential run, over every rule of replies and every neighbourhood. The contract
-/// holds the laws: a call does nothing.
+/// The laws of histories of several callers, over any replies, or over those of a rule. The contract holds the laws: a call does
+/// nothing.
+pub fn history_laws()
+    ensures own_order { (reply : List Point → Call → Reply) → KeepsOwnOrder reply }
+    ensures totals { (reply : List Point → Call → Reply) → KeepsTotals reply }
+    ensures counted { (reply : List Point → Call → Reply) → CountsAccepting reply }
+    ensures views { (front : List Point → List Point) (reply : List Point → Call → Reply) → ViewsAreSequentiallyConsistent front reply }
+    ensures in_order { HoldsInOrder }
+    ensures values { (front : List Point → List Point) (reply : List Point → Call → Reply) → AcceptsValuesOnce front reply }
+    ensures callers_values { (front : List Point → List Point) (reply : List Point → Call → Reply) → CallersAcceptValuesOnce front reply }
+{}
+
+/// The laws of search runs, over any replies, or over those of a rule, and every neighbourhood. A call does nothing.
 pub fn run_laws()
-    ensures legal { (reply : List Point → Call → Reply) (neighbours : Point → List Point) → RunsLegally reply neighbours }
-    ensures fuel { (reply : List Point → Call → Reply) (neighbours : Point → List Point) → HasEnoughFuel reply neighbours }
-    ensures explored { (reply : List Point → Call → Reply) (neighbours : Point → List Point) → ExploresAllAccepted reply neighbours }
-    ensures moves { (reply : List Point → Call → Reply) (neighbours : Point → List Point) → DrawsMoves reply neighbours }
-    ensures cut { (reply : List Point → Call → Reply) (neighbours : Point → List Point) → IsCutWithoutMoves reply neighbours }
+    ensures stopped { (reply : List Point → Call → Reply) (neighbours : Point → List Point) → StopsWithMore reply neighbours }
+    ensures sequential { (reply : List Point → Call → Reply) (neighbours : Point → List Point) → RunsSequentially reply neighbours }
+    ensures only { (reply : List Point → Call → Reply) (neighbours : Point → List Point) → IsOnlySequentialRun reply neighbours }
+    ensures front { (front : List Point → List Point) (reply : List Point → Call → Reply) (neighbours : Point → List Point) → TellsFront front reply neighbours }
+    ensures closed { (front : List Point → List Point) (reply : List Point → Call → Reply) (neighbours : Point → List Point) → ClosesFront front reply neighbours }
     ensures local_optima { (neighbours : Point → List Point) → EndsInLocalOptima neighbours }
 {}
 

@@ -1,24 +1,25 @@
-use Rattle.pls_archive.proofs.Ends.{sequential_run-HasEnoughFuel}
-use Rattle.pls_archive.proofs.Explored.{sequential_run-ExploresAllAccepted, sequential_run-IsCutWithoutMoves}
-use Rattle.pls_archive.proofs.Legal.{IsLegal-sequential_run}
-use Rattle.pls_archive.proofs.LocalOptima.{sequential_run-EndsInLocalOptima}
-use Rattle.pls_archive.proofs.Drawn.{sequential_run-DrawsMoves}
+use Rattle.pls_archive.proofs.ClosedFront.{closes_front}
+use Rattle.pls_archive.proofs.LocalOptima.{ends_in_local_optima}
+use Rattle.pls_archive.proofs.SequentialOnly.{only_sequential_run}
+use Rattle.pls_archive.proofs.SequentialSound.{runs_sequentially}
+use Rattle.pls_archive.proofs.Stopped.{stops_with_more}
+use Rattle.pls_archive.proofs.ToldFront.{tells_front}
 use Rattle.pls_archive.proofs.laws.run_laws.Goals as goal
 
-pub returns-clause-legal : goal.returns-clause-legal
-returns-clause-legal c = IsLegal-sequential_run
+pub returns-clause-stopped : goal.returns-clause-stopped
+returns-clause-stopped c = stops_with_more
 
-pub returns-clause-fuel : goal.returns-clause-fuel
-returns-clause-fuel c = sequential_run-HasEnoughFuel
+pub returns-clause-sequential : goal.returns-clause-sequential
+returns-clause-sequential c = runs_sequentially
 
-pub returns-clause-explored : goal.returns-clause-explored
-returns-clause-explored c = sequential_run-ExploresAllAccepted
+pub returns-clause-only : goal.returns-clause-only
+returns-clause-only c = only_sequential_run
 
-pub returns-clause-moves : goal.returns-clause-moves
-returns-clause-moves c = sequential_run-DrawsMoves
+pub returns-clause-front : goal.returns-clause-front
+returns-clause-front c = tells_front
 
-pub returns-clause-cut : goal.returns-clause-cut
-returns-clause-cut c = sequential_run-IsCutWithoutMoves
+pub returns-clause-closed : goal.returns-clause-closed
+returns-clause-closed c = closes_front
 
 pub returns-clause-local_optima : goal.returns-clause-local_optima
-returns-clause-local_optima c = sequential_run-EndsInLocalOptima
+returns-clause-local_optima c = ends_in_local_optima

@@ -1,0 +1,19 @@
+use Rattle.std.proofs.Common.{◌≡◌, rules, List, ap, sym, subst}
+use Rattle.std.specs.List.Sorted.{IsPermutation}
+use Rattle.pls_archive.specs.declared.point.Point.{Point}
+use Rattle.pls_archive.specs.declared.call.Call.TheVariants.{Snapshot}
+use Rattle.pls_archive.specs.declared.call.Reply.TheVariants.{Points}
+use Rattle.pls_archive.specs.Archives.{Replies}
+use Rattle.pls_archive.specs.Reply.{members, nondominated}
+use Rattle.pls_archive.proofs.ListArchive.{snapshot-Replies}
+use Rattle.pls_archive.proofs.plain.PlainSingle.snapshot.Goals as goal
+
+pub returns : goal.returns
+returns c =
+    let points = c.self.inside.points.items in
+    let sorted = c.sort_by_value.new.points.items in
+    let copied : c.extend_from_slice.new.self.items ≡ points = search rules in
+    let same = subst (λ (ps : List Point). IsPermutation ps sorted) copied c.in_ok-sort_by_value.ensures.same in
+    subst (λ (ps : List Point). Replies members nondominated ps Snapshot (Points c.from_vec.result)) (ap (λ a. a.points) c.self.view_is)
+    (subst (λ (list : List Point). Replies members nondominated points Snapshot (Points list)) (sym c.from_vec.ensures)
+    (snapshot-Replies points c.self.invariant.apart sorted same c.in_ok-sort_by_value.ensures.ascending))
