@@ -1,11 +1,10 @@
 -- Where the third word is not 0, some seat keeps a cause.
-use Rattle.std.proofs.Common.{◌≡◌, ℕ, zero, suc, ◌+◌, ◌<◌, ◌⊎◌, inl, inr, ⊎_elim, ltb, List, [], ◌∷◌, length, slice_index, sum_by, count_by, refl, ap, ◌∙◌, arith}
+use Rattle.std.proofs.Common.{◌≡◌, ℕ, zero, suc, ◌<◌, ◌⊎◌, inl, inr, ⊎_elim, ltb, List, [], ◌∷◌, length, slice_index, sum_by, count_by, refl, ap, ◌∙◌, arith}
 use Rattle.std.proofs.lemmas.List.Sums.{sum_by-cons}
 use Rattle.pls_pool.specs.declared.cause.Cause.{Cause}
 use Rattle.pls_pool.specs.declared.cause.Cause.TheVariants.{Spent, Full, Memory}
 use Rattle.pls_pool.specs.declared.tally.Tally.{Tally}
-use Rattle.pls_pool.specs.declared.sizes.Sizes.{Sizes}
-use Rattle.pls_pool.specs.DeskRule.{is_cause, times_halted, Kept, HaltedKeepsCause}
+use Rattle.pls_pool.specs.DeskRule.{is_cause, times_halted, HaltedKeepsCause}
 use Rattle.pls_pool.proofs.DeskMoves.{word_as}
 use mathlib.Core.Option.{some}
 use lib.ListN.{get_elem?}

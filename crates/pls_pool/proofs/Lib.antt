@@ -4,3 +4,8 @@ pub mod Pushed
 pub mod TaskMoves
 pub mod AccountMoves
 pub mod DeskLaws
+pub mod DequeMoves
+pub mod ReachMoves
+pub mod SeatMoves
+pub mod DealMoves
+pub mod Apartness

@@ -1,14 +1,12 @@
 -- Each step of a pool keeps the rule of the queue, and tells what it must.
-use Rattle.std.proofs.Common.{◌≡◌, ◌≢◌, ℕ, zero, suc, ◌+◌, ◌-◌, ◌<◌, ◌≤◌, ◌⊎◌, ⊎_elim, Bool, cond, Option, Some, None, List, [], ◌∷◌, ◌++◌, length, take, drop, set, sum_by, count_by, refl, sym, ap, subst, ◌∙◌, append_assoc, length-append, arith}
-use Rattle.std.proofs.lemmas.List.{append-nil}
+use Rattle.std.proofs.Common.{◌≡◌, ◌≢◌, ℕ, zero, suc, ◌+◌, ◌-◌, ◌<◌, ◌≤◌, ⊎_elim, Bool, cond, Option, Some, List, [], ◌∷◌, ◌++◌, length, drop, set, sum_by, count_by, refl, sym, ap, subst, ◌∙◌, append_assoc, length-append, arith}
 use Rattle.std.proofs.lemmas.List.Sums.{sum_by-cons, sum_by-append, sum_by_push}
 use Rattle.std.proofs.Math.Seq.{drop-append_seam}
 use Rattle.std.specs.List.{range_with_len}
 use Rattle.crossbeam_queue.specs.Fifo.{Pushes, Pops, Forks, Merges}
 use Rattle.atomic_table.proofs.Lists.{at_set, at_snoc}
-use Rattle.pls_pool.specs.Accounts.{Account, HoldsAll, IsAmong, Takes, Puts, FindsNone, Joins}
-use Rattle.pls_pool.specs.Hands.{started, first, planned, spent, giving, given, putting, taking, putting_aside, taking_spare, joining, noting, waiting, account_at}
-use Rattle.pls_pool.specs.TaskRule.{put_by, taken_by, spare_by, held, InOrder, Keeps, Learns, TakesOne}
+use Rattle.pls_pool.specs.Hands.{started, first, spent, giving, given, putting, taking, taking_spare, joining, noting, waiting}
+use Rattle.pls_pool.specs.TaskRule.{held, IsWhole, InOrder, Keeps, Learns, TakesFrom}
 use Rattle.pls_pool.specs.declared.hand.Hand.{Hand}
 use Rattle.pls_pool.proofs.Sums.{sum_set, sum_same, sum_here, sum_two, sum_only, sum_joined, sum_split}
 use mathlib.Core.Option.{some, some-injective, some-ne-none}
@@ -17,6 +15,9 @@ use lib.ListN.{get_elem?}
 module _ {T : Type 0} where
   abbrev numbers_in : Hand T → ℕ
   numbers_in v = length v.numbers
+
+  abbrev HasNothing : Hand T → Type 0
+  HasNothing v = (v.put ≡ []) × (v.taken ≡ [])
 
   pub count_push : (p : T → Bool) (xs : List T) (x : T) → count_by p (xs ++ x ∷ []) ≡ count_by p xs + cond (p x) 1 0
   count_push p xs x = sum_by_push (λ y. cond (p y) 1 0) xs x
@@ -27,11 +28,6 @@ module _ {T : Type 0} where
   pub count_cons : (p : T → Bool) (x : T) (xs : List T) → count_by p (x ∷ xs) ≡ cond (p x) 1 0 + count_by p xs
   count_cons p x xs = sum_by-cons (λ y. cond (p y) 1 0) x xs
 
-  -- the front of a list and the rest
-  pub count_first : (p : T → Bool) (xs : List T) → count_by p (take 1 xs) + count_by p (drop 1 xs) ≡ count_by p xs
-  count_first p [] = refl
-  count_first p (x ∷ xs) = omega (arith, count_cons p x xs, count_cons p x [])
-
   module _ (items : List T) (views : List (Hand T)) (keeps : Keeps items views) (i : ℕ) (v : Hand T) (at : get_elem? views i ≡ some v) (holds : 0 < length v.numbers) where
     -- where a pool has one seat, no other seat holds a number
     only_seat : (j : ℕ) (u : Hand T) → j ≢ i → get_elem? views j ≡ some u → 0 < length u.numbers → u.seats ≢ 1
@@ -41,7 +37,7 @@ module _ {T : Type 0} where
 
     -- A seat changes what it did and the queue, and holds the same numbers. What it put beyond what it took and what is left stays
     pub moves : (now : List T) (w : Hand T) → w.numbers ≡ v.numbers → w.seats ≡ v.seats
-        → ((p : T → Bool) → count_by p w.put + (count_by p v.taken + count_by p v.spare + count_by p items) ≡ count_by p v.put + (count_by p w.taken + count_by p w.spare + count_by p now))
+        → ((p : T → Bool) → count_by p w.put + (count_by p v.taken + count_by p items) ≡ count_by p v.put + (count_by p w.taken + count_by p now))
         → (v.seats ≡ 1 → InOrder items v → InOrder now w)
         → Keeps now (set views i w)
     moves now w same_numbers same_seats adds order =
@@ -49,7 +45,6 @@ module _ {T : Type 0} where
           balance = λ p.
               let a = sum_set (λ (u : Hand T). count_by p u.put) views i v w at in
               let b = sum_set (λ (u : Hand T). count_by p u.taken) views i v w at in
-              let c = sum_set (λ (u : Hand T). count_by p u.spare) views i v w at in
               let is = keeps.balance p in
               let change = adds p in omega arith;
           shares = λ j u there low.
@@ -70,7 +65,7 @@ module _ {T : Type 0} where
         }
 
     -- beside a seat that holds all, no other has done anything
-    only : HoldsAll v.seats (account_at v) → (f : Hand T → List T) → ((j : ℕ) (u : Hand T) → get_elem? views j ≡ some u → length u.numbers ≡ 0 → f u ≡ [])
+    only : IsWhole v → (f : Hand T → List T) → ((j : ℕ) (u : Hand T) → get_elem? views j ≡ some u → length u.numbers ≡ 0 → f u ≡ [])
         → (p : T → Bool) → sum_by (λ u. count_by p (f u)) views ≡ count_by p (f v)
     only all f none p =
         sum_only (λ u. count_by p (f u)) views i v at
@@ -84,7 +79,6 @@ module _ {T : Type 0} where
       balance = λ all p.
           let a = only all (λ u. u.put) (λ j u there none. (keeps.nothing j u there none).0) p in
           let b = only all (λ u. u.taken) (λ j u there none. (keeps.nothing j u there none).1) p in
-          let c = only all (λ u. u.spare) (λ j u there none. (keeps.nothing j u there none).2) p in
           let is = keeps.balance p in omega arith;
       in_order = keeps.in_order i v at holds;
     }
@@ -92,85 +86,65 @@ module _ {T : Type 0} where
   -- a seat that has done nothing joins
   pub spends : (items : List T) (views : List (Hand T)) → Keeps items views → Keeps items (views ++ spent ∷ [])
   spends items views keeps = record {
-    balance = λ p. let is = keeps.balance p in
-        omega (arith, sum_by_push (λ (u : Hand T). count_by p u.put) views spent, sum_by_push (λ (u : Hand T). count_by p u.taken) views spent, sum_by_push (λ (u : Hand T). count_by p u.spare) views spent);
+    balance = λ p. let is = keeps.balance p in omega (arith, sum_by_push (λ (u : Hand T). count_by p u.put) views spent, sum_by_push (λ (u : Hand T). count_by p u.taken) views spent);
     shares = λ j u there low. ⊎_elim (λ old. keeps.shares j u old low ∙ (let more = sum_by_push numbers_in views spent in omega arith)) (λ last. absurd (let n = ap numbers_in last in omega arith)) (at_snoc views spent u j there);
-    nothing = λ j u there none. ⊎_elim (λ old. keeps.nothing j u old none) (λ last. subst (λ (x : Hand T). (x.put ≡ []) × (x.taken ≡ []) × (x.spare ≡ [])) last (refl, refl, refl)) (at_snoc views spent u j there);
+    nothing = λ j u there none. ⊎_elim (λ old. keeps.nothing j u old none) (λ last. subst HasNothing last (refl, refl)) (at_snoc views spent u j there);
     in_order = λ j u there low one. ⊎_elim (λ old. keeps.in_order j u old low one) (λ last. absurd (let n = ap numbers_in last in omega arith)) (at_snoc views spent u j there);
   }
 
-  -- where a seat is the only one, what waits is what the queue holds and then its spare tasks
-  pub waits_are : (items : List T) (v : Hand T) → InOrder items v → waiting v ≡ items ++ v.spare
-  waits_are items v order = ap (drop (length v.taken)) order ∙ drop-append_seam v.taken (items ++ v.spare)
+  -- where a seat is the only one, what waits is what the queue holds
+  pub waits_are : (items : List T) (v : Hand T) → InOrder items v → waiting v ≡ items
+  waits_are items v order = ap (drop (length v.taken)) order ∙ drop-append_seam v.taken items
 
   module _ (pass : ℕ) (v : Hand T) (holds : 0 < length v.numbers) where
-    pub puts_at : (n : ℕ) (x : T) → v.spare ≡ [] → Pushes Keeps n pass v x (λ w. w ≡ putting x v)
-    puts_at n x bare items views room keeps at = (
-      putting x v,
-      moves items views keeps pass v at holds (items ++ x ∷ []) (putting x v) refl refl (λ p. omega (arith, count_push p v.put x, count_push p items x))
-          (λ one order. behind v.spare bare order),
-      refl,
-    )
-      where
-        behind : (spare : List T) → spare ≡ [] → v.put ≡ v.taken ++ (items ++ spare) → v.put ++ x ∷ [] ≡ v.taken ++ (items ++ x ∷ [] ++ spare)
-        behind [] none order = ap (λ l. l ++ x ∷ []) order ∙ simp (append_assoc, append-nil)
-        behind (y ∷ ys) none order = cc
+    -- tasks join at the back, or leave at the front
+    pub puts_into : (xs items : List T) (views : List (Hand T)) → Keeps items views → get_elem? views pass ≡ some v → Keeps (items ++ xs) (set views pass (putting xs v))
+    puts_into xs items views keeps at =
+        moves items views keeps pass v at holds (items ++ xs) (putting xs v) refl refl (λ p. omega (arith, count_append p v.put xs, count_append p items xs))
+        (λ one order. ap (λ l. l ++ xs) order ∙ append_assoc v.taken items xs)
 
-    pub takes_at : Pops Keeps pass v (TakesOne v)
-    takes_at x items views keeps at =
-        let w = taking x v in
-        let told = learns (x ∷ items) views keeps pass v at holds in
-        let further : InOrder (x ∷ items) v → InOrder items w = λ order. order ∙ sym (append_assoc v.taken (x ∷ []) (items ++ v.spare)) in (
-          w,
-          moves (x ∷ items) views keeps pass v at holds items w refl refl (λ p. omega (arith, count_push p v.taken x, count_cons p x items)) (λ one order. further order),
+    pub takes_from : (xs items : List T) (views : List (Hand T)) → Keeps (xs ++ items) views → get_elem? views pass ≡ some v → Keeps items (set views pass (taking xs v)) × TakesFrom v xs (taking xs v)
+    takes_from xs items views keeps at =
+        let w = taking xs v in
+        let told = learns (xs ++ items) views keeps pass v at holds in
+        let further : InOrder (xs ++ items) v → InOrder items w = λ order. order ∙ sym (append_assoc v.taken xs items) in (
+          moves (xs ++ items) views keeps pass v at holds items w refl refl (λ p. omega (arith, count_append p v.taken xs, count_append p xs items)) (λ one order. further order),
           record {
             now = refl;
-            among = λ all p. let even = told.balance all p in omega (arith, count_push p v.taken x, count_cons p x items);
-            waits = λ one. waits_are (x ∷ items) v (told.in_order one) ∙ ap (λ l. x ∷ l) (sym (waits_are items w (further (told.in_order one))));
+            among = λ all p. let even = told.balance all p in omega (arith, count_append p v.taken xs, count_append p xs items);
+            waits = λ one. waits_are (xs ++ items) v (told.in_order one) ∙ ap (λ l. xs ++ l) (sym (waits_are items w (further (told.in_order one))));
           },
         )
 
-    pub puts_aside_at : (x : T) (now : Option (Hand T)) → now ≡ Some (putting_aside x v) → Forks Keeps pass v (noting now v) spent
-    puts_aside_at x now is items views keeps at =
-        let w = putting_aside x v in
+    pub puts_at : (n : ℕ) (x : T) → Pushes Keeps n pass v x (λ w. w ≡ putting (x ∷ []) v)
+    puts_at n x items views room keeps at = (putting (x ∷ []) v, puts_into (x ∷ []) items views keeps at, refl)
+
+    pub takes_at : Pops Keeps pass v (λ x w. TakesFrom v (x ∷ []) w)
+    takes_at x items views keeps at = let done = takes_from (x ∷ []) items views keeps at in (taking (x ∷ []) v, done.0, done.1)
+
+    -- a step of the seat that the queue does not see
+    pub notes_spare_at : (x : T) (now : Option (Hand T)) → now ≡ Some (taking_spare x v) → Forks Keeps pass v (noting now v) spent
+    notes_spare_at x now is items views keeps at =
+        let w = taking_spare x v in
         subst (λ (o : Option (Hand T)). Keeps items (set views pass (noting o v) ++ spent ∷ [])) (sym is)
-        (spends items (set views pass w)
-        (moves items views keeps pass v at holds items w refl refl (λ p. omega (arith, count_push p v.put x, count_push p v.spare x)) (λ one order. ap (λ l. l ++ x ∷ []) order ∙ simp append_assoc)))
+        (spends items (set views pass w) (moves items views keeps pass v at holds items w refl refl (λ p. omega arith) (λ one order. order)))
 
-    pub takes_spare_at : (v.seats ≡ 1 → InOrder [] v) → Forks Keeps pass v (taking_spare v) spent
-    takes_spare_at empty items views keeps at =
-        let w = taking_spare v in
-        spends items (set views pass w)
-        (moves items views keeps pass v at holds items w refl refl
-        (λ p. omega (arith, count_append p v.taken (take 1 v.spare), count_first p v.spare))
-        (λ one order. from_front v.spare items (empty one) order))
-      where
-        from_front : (spare now : List T) → v.put ≡ v.taken ++ ([] ++ spare) → v.put ≡ v.taken ++ (now ++ spare) → v.put ≡ v.taken ++ take 1 spare ++ (now ++ drop 1 spare)
-        from_front [] now none order = order ∙ simp append-nil
-        from_front (x ∷ xs) [] none order = order ∙ sym (append_assoc v.taken (x ∷ []) xs)
-        from_front (x ∷ xs) (y ∷ ys) none order =
-            absurd (let a = ap length none in let b = ap length order in omega (arith, length-append v.taken (x ∷ xs), length-append v.taken (y ∷ ys ++ x ∷ xs), length-append ys (x ∷ xs)))
-
-  -- the first seat learns for how many seats the pool is
-  pub plans_at : (pass seats : ℕ) (now : Option (Hand T)) → 0 < seats → now ≡ Some (planned seats) → Forks Keeps pass first (noting now first) spent
-  plans_at pass seats now some_seats is items views keeps at =
+  -- the first seat learns for how many seats the pool is, and which numbers it holds until it gives them away
+  pub plans_at : (pass seats : ℕ) (numbers : List ℕ) (now : Option (Hand T)) → 0 < seats → length numbers ≡ seats → now ≡ Some (started seats numbers) → Forks Keeps pass first (noting now first) spent
+  plans_at pass seats numbers now some_seats count is items views keeps at =
       subst (λ (o : Option (Hand T)). Keeps items (set views pass (noting o first) ++ spent ∷ [])) (sym is) (spends items new kept)
     where
       w : Hand T
-      w = planned seats
+      w = started seats numbers
 
       new : List (Hand T)
-      new = set views pass (planned seats)
+      new = set views pass (started seats numbers)
 
       one : held views ≡ 1
       one = sym (keeps.shares pass first at (omega arith))
 
-      count_range : (k n : ℕ) → length (range_with_len k n) ≡ n
-      count_range k zero = refl
-      count_range k (suc n) = ap suc (count_range (k + 1) n)
-
       all : held new ≡ seats
-      all = let now_held = sum_set numbers_in views pass first (planned seats) at in let count = count_range 0 seats in let was = one in omega arith
+      all = let now_held = sum_set numbers_in views pass first (started seats numbers) at in let was = one in omega arith
 
       none_else : (j : ℕ) (u : Hand T) → j ≢ pass → get_elem? views j ≡ some u → length u.numbers ≡ 0
       none_else j u apart there = let two = sum_two numbers_in views pass j first u at there apart in let was = one in omega arith
@@ -178,17 +152,16 @@ module _ {T : Type 0} where
       kept : Keeps items new
       kept = record {
         balance = λ p.
-            let a = sum_same (λ (u : Hand T). count_by p u.put) views pass first (planned seats) at refl in
-            let b = sum_same (λ (u : Hand T). count_by p u.taken) views pass first (planned seats) at refl in
-            let c = sum_same (λ (u : Hand T). count_by p u.spare) views pass first (planned seats) at refl in
+            let a = sum_same (λ (u : Hand T). count_by p u.put) views pass first (started seats numbers) at refl in
+            let b = sum_same (λ (u : Hand T). count_by p u.taken) views pass first (started seats numbers) at refl in
             let is = keeps.balance p in omega arith;
-        shares = λ j u there low. ⊎_elim (λ mine. ap (λ x. x.seats) (sym mine.1) ∙ sym all) (λ other. absurd (let none = none_else j u other.0 other.1 in omega arith)) (at_set views pass j (planned seats) u there);
-        nothing = λ j u there none. ⊎_elim (λ mine. subst (λ (x : Hand T). (x.put ≡ []) × (x.taken ≡ []) × (x.spare ≡ [])) mine.1 (refl, refl, refl)) (λ other. keeps.nothing j u other.1 none) (at_set views pass j (planned seats) u there);
+        shares = λ j u there low. ⊎_elim (λ mine. ap (λ x. x.seats) (sym mine.1) ∙ sym all) (λ other. absurd (let none = none_else j u other.0 other.1 in omega arith)) (at_set views pass j (started seats numbers) u there);
+        nothing = λ j u there none. ⊎_elim (λ mine. subst HasNothing mine.1 (refl, refl)) (λ other. keeps.nothing j u other.1 none) (at_set views pass j (started seats numbers) u there);
         in_order = λ j u there low alone.
             ⊎_elim
             (λ mine. subst (InOrder items) mine.1 (keeps.in_order pass first at (omega arith) refl))
             (λ other. absurd (let none = none_else j u other.0 other.1 in omega arith))
-            (at_set views pass j (planned seats) u there);
+            (at_set views pass j (started seats numbers) u there);
       }
 
   -- a seat that holds several numbers and has done nothing gives one to a new seat
@@ -197,7 +170,6 @@ module _ {T : Type 0} where
     balance = λ p.
         let x = sum_split (λ (u : Hand T). count_by p u.put) views pass v left right at refl in
         let y = sum_split (λ (u : Hand T). count_by p u.taken) views pass v left right at refl in
-        let z = sum_split (λ (u : Hand T). count_by p u.spare) views pass v left right at refl in
         let is = keeps.balance p in omega arith;
     shares = λ j u there low.
         ⊎_elim
@@ -206,9 +178,8 @@ module _ {T : Type 0} where
         (at_snoc (set views pass left) right u j there);
     nothing = λ j u there none.
         ⊎_elim
-        (λ old.
-        ⊎_elim (λ mine. subst (λ (x : Hand T). (x.put ≡ []) × (x.taken ≡ []) × (x.spare ≡ [])) mine.1 (refl, refl, refl)) (λ other. keeps.nothing j u other.1 none) (at_set views pass j left u old))
-        (λ last. subst (λ (x : Hand T). (x.put ≡ []) × (x.taken ≡ []) × (x.spare ≡ [])) last (refl, refl, refl))
+        (λ old. ⊎_elim (λ mine. subst HasNothing mine.1 (refl, refl)) (λ other. keeps.nothing j u other.1 none) (at_set views pass j left u old))
+        (λ last. subst HasNothing last (refl, refl))
         (at_snoc (set views pass left) right u j there);
     in_order = λ j u there low one.
         ⊎_elim
@@ -254,49 +225,54 @@ module _ {T : Type 0} where
   given_range seats from (suc n) some_left = refl
 
   -- a seat takes over what another did
+  module _ (pass : ℕ) (v : Hand T) (other : ℕ) (w both : Hand T) (some_mine : 0 < length v.numbers) (some_theirs : 0 < length w.numbers) where
+    pub merges_at : both.seats ≡ v.seats → length both.numbers ≡ length v.numbers + length w.numbers
+        → ((p : T → Bool) → count_by p both.put ≡ count_by p v.put + count_by p w.put) → ((p : T → Bool) → count_by p both.taken ≡ count_by p v.taken + count_by p w.taken)
+        → Merges Keeps pass v other w both spent
+    merges_at same_seats all_numbers all_put all_taken items views keeps at apart there =
+        let new : List (Hand T) = set (set views pass both) other spent in
+        let theirs : get_elem? views other ≡ some w = ⊎_elim (λ mine. absurd (apart mine.0)) (λ old. old.1) (at_set views pass other both w there) in
+        let same_held : held new ≡ held views = sum_joined numbers_in views pass other v w both spent at there all_numbers refl in
+        let several : 1 < v.seats = (let two = sum_two numbers_in views pass other v w at theirs apart in let shares = keeps.shares pass v at some_mine in omega arith) in record {
+          balance = λ p.
+              let a = sum_joined (λ (u : Hand T). count_by p u.put) views pass other v w both spent at there (all_put p) refl in
+              let b = sum_joined (λ (u : Hand T). count_by p u.taken) views pass other v w both spent at there (all_taken p) refl in
+              let is = keeps.balance p in omega arith;
+          shares = λ j u at_j low.
+              ⊎_elim
+              (λ gone. absurd (let n = ap numbers_in gone.1 in omega arith))
+              (λ old.
+              ⊎_elim
+              (λ mine. ap (λ x. x.seats) (sym mine.1) ∙ same_seats ∙ keeps.shares pass v at some_mine ∙ sym same_held)
+              (λ left. keeps.shares j u left.1 low ∙ sym same_held)
+              (at_set views pass j both u old.1))
+              (at_set (set views pass both) other j spent u at_j);
+          nothing = λ j u at_j none.
+              ⊎_elim
+              (λ gone. subst HasNothing gone.1 (refl, refl))
+              (λ old. ⊎_elim (λ mine. absurd (let n = ap numbers_in mine.1 in omega arith)) (λ left. keeps.nothing j u left.1 none) (at_set views pass j both u old.1))
+              (at_set (set views pass both) other j spent u at_j);
+          in_order = λ j u at_j low one.
+              ⊎_elim
+              (λ gone. absurd (let n = ap numbers_in gone.1 in omega arith))
+              (λ old.
+              ⊎_elim
+              (λ mine. absurd (let same = ap (λ (x : Hand T). x.seats) mine.1 in omega arith))
+              (λ left. absurd (only_seat items views keeps pass v at some_mine j u left.0 left.1 low one))
+              (at_set views pass j both u old.1))
+              (at_set (set views pass both) other j spent u at_j);
+        }
+
   pub joins_at : (pass : ℕ) (v : Hand T) (other : ℕ) (w : Hand T) → 0 < length v.numbers → 0 < length w.numbers → Merges Keeps pass v other w (joining v w) spent
-  joins_at pass v other w some_mine some_theirs items views keeps at apart there =
-      let both = joining v w in
-      let new : List (Hand T) = set (set views pass both) other spent in
-      let theirs : get_elem? views other ≡ some w = ⊎_elim (λ mine. absurd (apart mine.0)) (λ old. old.1) (at_set views pass other both w there) in
-      let same_held : held new ≡ held views = sum_joined numbers_in views pass other v w both spent at there (length-append v.numbers w.numbers) refl in
-      let several : 1 < v.seats = (let two = sum_two numbers_in views pass other v w at theirs apart in let shares = keeps.shares pass v at some_mine in omega arith) in record {
-        balance = λ p.
-            let a = sum_joined (λ (u : Hand T). count_by p u.put) views pass other v w both spent at there (count_append p v.put w.put) refl in
-            let b = sum_joined (λ (u : Hand T). count_by p u.taken) views pass other v w both spent at there (count_append p v.taken w.taken) refl in
-            let c = sum_joined (λ (u : Hand T). count_by p u.spare) views pass other v w both spent at there (count_append p v.spare w.spare) refl in
-            let is = keeps.balance p in omega arith;
-        shares = λ j u at_j low.
-            ⊎_elim
-            (λ gone. absurd (let n = ap numbers_in gone.1 in omega arith))
-            (λ old. ⊎_elim (λ mine. ap (λ x. x.seats) (sym mine.1) ∙ keeps.shares pass v at some_mine ∙ sym same_held) (λ left. keeps.shares j u left.1 low ∙ sym same_held) (at_set views pass j both u old.1))
-            (at_set (set views pass both) other j spent u at_j);
-        nothing = λ j u at_j none.
-            ⊎_elim
-            (λ gone. subst (λ (x : Hand T). (x.put ≡ []) × (x.taken ≡ []) × (x.spare ≡ [])) gone.1 (refl, refl, refl))
-            (λ old.
-            ⊎_elim
-            (λ mine. absurd (let n = ap numbers_in mine.1 in omega (arith, length-append v.numbers w.numbers)))
-            (λ left. keeps.nothing j u left.1 none)
-            (at_set views pass j both u old.1))
-            (at_set (set views pass both) other j spent u at_j);
-        in_order = λ j u at_j low one.
-            ⊎_elim
-            (λ gone. absurd (let n = ap numbers_in gone.1 in omega arith))
-            (λ old.
-            ⊎_elim
-            (λ mine. absurd (let same = ap (λ (x : Hand T). x.seats) mine.1 in omega arith))
-            (λ left. absurd (only_seat items views keeps pass v at some_mine j u left.0 left.1 low one))
-            (at_set views pass j both u old.1))
-            (at_set (set views pass both) other j spent u at_j);
-      }
+  joins_at pass v other w some_mine some_theirs =
+      merges_at pass v other w (joining v w) some_mine some_theirs refl (length-append v.numbers w.numbers) (λ p. count_append p v.put w.put) (λ p. count_append p v.taken w.taken)
 
 -- The start of the rule
 pub begins : {T : Type 0} → Keeps {T = T} [] (first ∷ [])
 begins {T} = record {
   balance = λ p. omega arith;
   shares = λ i v there low. at_first i v there (λ x. x.seats ≡ 1) refl;
-  nothing = λ i v there none. at_first i v there (λ x. (x.put ≡ []) × (x.taken ≡ []) × (x.spare ≡ [])) (refl, refl, refl);
+  nothing = λ i v there none. at_first i v there HasNothing (refl, refl);
   in_order = λ i v there low one. at_first i v there (InOrder []) refl;
 }
   where
@@ -307,3 +283,7 @@ begins {T} = record {
 pub no_length : {T : Type 0} (xs : List T) → length xs ≡ 0 → xs ≡ []
 no_length [] none = refl
 no_length (x ∷ xs) none = absurd (omega arith)
+
+pub count_range : (k n : ℕ) → length (range_with_len k n) ≡ n
+count_range k zero = refl
+count_range k (suc n) = ap suc (count_range (k + 1) n)

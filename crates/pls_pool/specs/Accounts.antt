@@ -1,5 +1,5 @@
 -- What a seat of a pool did, as contracts see it, and what each call adds to it. Tasks are counted by tests.
-use Rattle.std.specs.Prelude.{◌≡◌, ℕ, ◌+◌, ◌<◌, ◌≤◌, ◌⊎◌, Bool, if◌then◌else◌, List, [], ◌∷◌, ◌++◌, length}
+use Rattle.std.specs.Prelude.{◌≡◌, ℕ, ◌+◌, ◌≤◌, ◌⊎◌, Bool, if◌then◌else◌, List, [], ◌∷◌, ◌++◌, length}
 
 pub record Account (T : Type 0) : Type 0 where
   -- the number of the seat, and then those of the seats joined into it
@@ -14,6 +14,15 @@ pub record Account (T : Type 0) : Type 0 where
 
 abbrev pub one_if : Bool → ℕ
 one_if b = if b then 1 else 0
+
+-- it is one of these numbers
+abbrev pub In : ℕ → List ℕ → Type 0
+In k [] = ⊥
+In k (n ∷ ns) = (k ≡ n) ⊎ In k ns
+
+-- no number is in both
+abbrev pub Apart : List ℕ → List ℕ → Type 0
+Apart ms ns = (k : ℕ) → In k ms → ¬ In k ns
 
 module _ {T : Type 0} where
   -- the account of the k-th seat at the start: it has done nothing

@@ -5,3 +5,6 @@ pub mod Accounts
 pub mod Hands
 pub mod TaskRule
 pub mod QueueSeats
+pub mod Reaches
+pub mod StealSeats
+pub mod Deals

@@ -1,5 +1,5 @@
 -- A pool of one queue and its seats, as their callers see them.
-use Rattle.std.specs.Prelude.{◌≡◌, ℕ, ◌+◌, ◌*◌, ◌^◌, ◌<◌, ◌≤◌, [], ◌∷◌, length}
+use Rattle.std.specs.Prelude.{◌≡◌, ℕ, ◌*◌, ◌^◌, ◌<◌, ◌≤◌, [], ◌∷◌, length}
 use Rattle.crossbeam_queue.specs.SegTies.{IsSegPassOf}
 use Rattle.pls_pool.specs.Accounts.{Account, IsNew}
 use Rattle.pls_pool.specs.Hands.{account_at}
@@ -12,7 +12,7 @@ module _ {T : Type 0} where
   hand_of s = s.pass.me.view.client
 
   abbrev pub account_of : QueueSeat T → Account T
-  account_of s = account_at (hand_of s)
+  account_of s = account_at 0 (hand_of s ∷ []) s.spare
 
   -- the seat is of this pool, and has no more than so many spare tasks for each seat that it holds
   pub record IsQueueSeatOf (q : OneQueue T) (s : QueueSeat T) : Type 0 where

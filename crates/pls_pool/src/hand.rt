@@ -8,9 +8,9 @@ pub struct Hand<T> {
     pub seats: u32,
     /// The numbers of the seats that it holds: its own, and then those of the seats joined into it.
     pub numbers: LinkedList<u32>,
-    /// The tasks that it put, and those that it took.
+    /// The tasks that it put into the queue, and those that it took from the queue.
     pub put: LinkedList<T>,
     pub taken: LinkedList<T>,
-    /// The tasks in its spare list.
-    pub spare: LinkedList<T>,
+    /// The tasks that it took from its spare list.
+    pub from_spare: LinkedList<T>,
 }

@@ -22,10 +22,9 @@ impl<T: Drop> Drop for OneQueue<T> {
     }
 }
 
-/// One worker's seat at the queue, with its spare list: the tasks that the queue did not take.
+/// One worker's seat at the queue, with its spare list.
 #[derive(Drop)]
 pub struct QueueSeat<T: Drop> {
     pub(crate) pass: SegPass<T, Hand<T>, Global>,
     pub(crate) spare: LinkedList<T>,
-    ghost tied: { pass.me.view.client.spare ≡ spare },
 }

@@ -1,36 +1,26 @@
 //! The calls of a pool of one queue.
-ghost use Rattle.std.specs.Prelude.{◌≡◌, Some, [], ◌∷◌, drop, MatchOption, MatchResult};
-ghost use Rattle.pls_pool.specs.Hands.{putting_aside, taking_spare};
+ghost use Rattle.std.specs.Prelude.{◌≡◌, Some, [], ◌∷◌, MatchOption};
+ghost use Rattle.pls_pool.specs.Hands.{taking_spare};
 ghost use Rattle.pls_pool.specs.TaskRule.{Learns};
 ghost use Rattle.pls_pool.specs.QueueSeats.{hand_of, IsQueueSeatOf};
 
 use crate::one_queue::{OneQueue, QueueSeat};
 use crate::pool::Pool;
-use crate::task_plays::{Absorb, Notes, Puts, Said, Takes, TakesSpare};
+use crate::spare::put_aside;
+use crate::task_plays::{Absorb, Notes, Puts, Said, Takes};
 use std::marker::Brand;
 use std::sync::Wait;
 
-// No spare list has more tasks for each seat joined, so that the lists of all seats together are not too long.
-const MOST: usize = 1 << 57;
-
 impl<T: Drop> OneQueue<T> {
-    // The task goes to the end of the spare list, or comes back.
-    pub(crate) fn put_aside<W: Said<T>>(&self, seat: &mut QueueSeat<T>, task: T) -> Result<(), T>
+    // The seat notes that it took a spare task.
+    fn note_spare<W: Said<T>>(&self, seat: &mut QueueSeat<T>, task: &T)
         requires seat { IsQueueSeatOf self.now seat.old }
-        requires said { W.now ≡ Some (putting_aside task (hand_of seat.old)) }
+        requires said { W.now ≡ Some (taking_spare task.now (hand_of seat.old)) }
         ensures seat { IsQueueSeatOf self.now seat.new }
-        ensures put { MatchResult result (λ _. hand_of seat.new ≡ putting_aside task (hand_of seat.old)) (λ x. (x ≡ task) × (hand_of seat.new ≡ hand_of seat.old)) }
+        ensures hand { hand_of seat.new ≡ taking_spare task.now (hand_of seat.old) }
+        ensures spare { seat.new.spare ≡ seat.old.spare }
     {
-        if seat.spare.len() >= MOST {
-            return Err(task);
-        }
-        match seat.spare.push_back(task) {
-            Ok(()) => {
-                drop(self.queue.another::<Notes<W>>(&mut seat.pass));
-                Ok(())
-            }
-            Err(refused) => Err(refused.value),
-        }
+        drop(self.queue.another::<Notes<W>>(&mut seat.pass));
     }
 
     // The front of the spare list, after the queue was empty.
@@ -38,10 +28,10 @@ impl<T: Drop> OneQueue<T> {
         requires seat { IsQueueSeatOf self.now seat.old }
         requires learns { Learns (hand_of seat.old) [] }
         ensures seat { IsQueueSeatOf self.now seat.new }
-        ensures taken { MatchOption result ((hand_of seat.new ≡ hand_of seat.old) × ((hand_of seat.old).spare ≡ [])) (λ x. (hand_of seat.new ≡ taking_spare (hand_of seat.old)) × ((hand_of seat.old).spare ≡ x ∷ drop 1 (hand_of seat.old).spare)) }
+        ensures taken { MatchOption result ((hand_of seat.new ≡ hand_of seat.old) × (seat.old.spare ≡ []) × (seat.new.spare ≡ [])) (λ x. (hand_of seat.new ≡ taking_spare x (hand_of seat.old)) × (seat.old.spare ≡ x ∷ seat.new.spare)) }
     {
         let task = seat.spare.pop_front()?;
-        drop(self.queue.another::<TakesSpare>(&mut seat.pass));
+        self.note_spare::<Brand>(seat, &task);
         Some(task)
     }
 }
@@ -59,11 +49,11 @@ impl<T: Drop> Pool<T> for OneQueue<T> {
 
     fn put<R: Wait>(&self, rt: &R, seat: &mut QueueSeat<T>, task: T) -> Result<(), T> {
         if !seat.spare.is_empty() {
-            return self.put_aside::<Brand>(seat, task);
+            return put_aside(&mut seat.spare, task);
         }
         match self.queue.push_as::<Puts, R>(rt, &mut seat.pass, task) {
             Ok(()) => Ok(()),
-            Err(task) => self.put_aside::<Brand>(seat, task),
+            Err(task) => put_aside(&mut seat.spare, task),
         }
     }
 

@@ -1,7 +1,8 @@
 //! The start of a pool of one queue: the queue, and its seats.
 ghost use Rattle.std.specs.Prelude.{◌≡◌, ℕ, ◌+◌, ◌-◌, ◌<◌, ◌≤◌, IfOk, Some, [], ◌∷◌, vec_len};
 ghost use Rattle.crossbeam_queue.specs.SegTies.{IsSegPassOf};
-ghost use Rattle.pls_pool.specs.Hands.{started, first, planned};
+ghost use Rattle.std.specs.List.{range_with_len};
+ghost use Rattle.pls_pool.specs.Hands.{started, first};
 ghost use Rattle.pls_pool.specs.QueueSeats.{hand_of, IsQueueSeatOf, IsNewQueueSeat};
 ghost use mathlib.Core.Option.{some};
 ghost use lib.ListN.{get_elem?};
@@ -20,9 +21,9 @@ impl<T: Drop> OneQueue<T> {
         requires queue { IsSegPassOf self.now.queue pass.old }
         requires first { pass.old.me.view.client ≡ first }
         requires seats { 0 < seats }
-        requires said { W.now ≡ Some (planned seats) }
+        requires said { W.now ≡ Some (started seats (range_with_len 0 seats)) }
         ensures queue { IsSegPassOf self.now.queue pass.new }
-        ensures planned { pass.new.me.view.client ≡ planned seats }
+        ensures planned { pass.new.me.view.client ≡ started seats (range_with_len 0 seats) }
     {
         drop(self.queue.another::<Notes<W>>(pass));
     }
@@ -34,7 +35,7 @@ impl<T: Drop> OneQueue<T> {
     ) -> Result<(OneQueue<T>, SegPass<T, Hand<T>, Global>), AllocError>
         requires { (1 ≤ seats) × (seats ≤ 16) }
         ensures seats { IfOk result (λ t. t.0.seats ≡ seats) }
-        ensures pass { IfOk result (λ t. IsSegPassOf t.0.queue t.1 × (t.1.me.view.client ≡ planned seats)) }
+        ensures pass { IfOk result (λ t. IsSegPassOf t.0.queue t.1 × (t.1.me.view.client ≡ started seats (range_with_len 0 seats))) }
     {
         let (queue, mut pass) = RuledSegQueue::with_rule(alloc)?;
         let pool = OneQueue { queue, seats };
@@ -48,6 +49,7 @@ impl<T: Drop> OneQueue<T> {
         requires started { (k : ℕ) × (pass.me.view.client ≡ started self.now.seats (k ∷ [])) }
         ensures seat { IsQueueSeatOf self.now result }
         ensures hand { hand_of result ≡ pass.me.view.client }
+        ensures bare { result.spare ≡ [] }
     {
         QueueSeat {
             pass,
@@ -62,7 +64,7 @@ impl<T: Drop> OneQueue<T> {
         pass: &mut SegPass<T, Hand<T>, Global>,
     ) -> Result<Vec<QueueSeat<T>>, AllocError>
         requires queue { IsSegPassOf self.now.queue pass.old }
-        requires all { pass.old.me.view.client ≡ planned self.now.seats }
+        requires all { pass.old.me.view.client ≡ started self.now.seats (range_with_len 0 self.now.seats) }
         ensures queue { IsSegPassOf self.now.queue pass.new }
         ensures last { IfOk result (λ _. pass.new.me.view.client ≡ started self.now.seats ((self.now.seats - 1) ∷ [])) }
         ensures count { IfOk result (λ others. vec_len others + 1 ≡ self.now.seats) }

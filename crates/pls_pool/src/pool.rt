@@ -7,7 +7,7 @@ use std::sync::Wait;
 /// Nothing is said of who takes a task, or that anybody does.
 pub trait Pool<T> {
     ghost use Rattle.std.specs.Prelude.{◌≡◌, ℕ, ◌+◌, ◌≤◌, length, MatchOption, MatchResult};
-    ghost use Rattle.pls_pool.specs.Accounts.{Account, Puts, Takes, FindsNone, Joins, HoldsAll, IsAmong};
+    ghost use Rattle.pls_pool.specs.Accounts.{Account, Apart, Puts, Takes, FindsNone, Joins, HoldsAll, IsAmong};
 
     /// One worker's seat.
     type Seat;
@@ -38,6 +38,7 @@ pub trait Pool<T> {
     /// The seat takes over what another did, and the tasks of its spare list.
     fn join(&self, seat: &mut Self::Seat, other: Self::Seat)
         requires seats { belongs self.now seat.old × belongs self.now other }
+        requires apart { Apart (account seat.old).numbers (account other).numbers }
         requires few { length (account seat.old).numbers + length (account other).numbers ≤ seats self.now }
         ensures seat { belongs self.now seat.new }
         ensures joined { Joins (account seat.old) (account other) (account seat.new) };

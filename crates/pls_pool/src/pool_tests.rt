@@ -1,11 +1,12 @@
 //! Tasks in order, and by four threads.
 
-ghost use Rattle.std.specs.Prelude.{◌≡◌, ◌<◌, ◌≤◌, length, IfOk};
+ghost use Rattle.std.specs.Prelude.{◌≡◌, ◌+◌, ◌<◌, ◌≤◌, [], ◌∷◌, length, vec_len, IfOk};
 ghost use Rattle.pls_pool.specs.QueueSeats.{IsQueueSeatOf, IsNewQueueSeat};
+ghost use Rattle.pls_pool.specs.StealSeats.{IsStealSeatOf, IsNewStealSeat};
 
-use crate::{OneQueue, Pool, QueueSeat};
+use crate::spare::put_aside;
+use crate::{OneQueue, Pool, QueueSeat, StealSeat, Stealing};
 use std::alloc::{AllocError, Global};
-use std::marker::Brand;
 use std::sync::Wait;
 use std::test::*;
 use std::thread;
@@ -83,10 +84,39 @@ fn may_cross<T: Drop + Send>(pool: &OneQueue<T>, seat: &QueueSeat<T>) {
     is_sent(seat);
 }
 
+fn may_cross_too<T: Drop + Send>(pool: &Stealing<T>, seat: &StealSeat<T>) {
+    is_shared(pool);
+    is_sent(seat);
+}
+
 #[test]
 fn one_queue_passes_in_order(rt: HostRuntime) -> Result<(), Fail> {
     let (pool, mut a, mut b) = start_two(rt.alloc())?;
     may_cross(&pool, &a);
+    assert_eq!(&rt; pass_in_order(&rt, &pool, &mut a, &mut b), true);
+    Ok(())
+}
+
+fn start_two_deques(
+    alloc: Global,
+    room: usize,
+) -> Result<(Stealing<u32>, StealSeat<u32>, StealSeat<u32>), AllocError>
+    requires { (1 ≤ room) × (room ≤ 65536) }
+    ensures { IfOk result (λ t. IsStealSeatOf t.0 t.1 × IsStealSeatOf t.0 t.2) }
+{
+    let (pool, mut seats) = Stealing::start(alloc, 2, room)?;
+    let b = seats.remove(1);
+    let a = seats.remove(0);
+    Ok((pool, a, b))
+}
+
+// The second seat steals each task, also those past the room of the first one's deque.
+#[test]
+fn deques_pass_in_order(rt: HostRuntime) -> Result<(), Fail> {
+    let (pool, mut a, mut b) = start_two_deques(rt.alloc(), 4)?;
+    may_cross_too(&pool, &a);
+    assert_eq!(&rt; pass_in_order(&rt, &pool, &mut a, &mut b), true);
+    let (pool, mut a, mut b) = start_two_deques(rt.alloc(), 1)?;
     assert_eq!(&rt; pass_in_order(&rt, &pool, &mut a, &mut b), true);
     Ok(())
 }
@@ -96,7 +126,7 @@ fn pass_one_aside<R: Wait>(rt: &R, pool: &OneQueue<u32>, seat: &mut QueueSeat<u3
     requires { IsQueueSeatOf pool.now seat.old }
 {
     put_range(rt, pool, seat, 1, 2)
-        && pool.put_aside::<Brand>(seat, 2).is_ok()
+        && put_aside(&mut seat.spare, 2).is_ok()
         && put_range(rt, pool, seat, 3, 4)
         && takes_range(rt, pool, seat, 1, 4)
         && pool.take(rt, seat).is_none()
@@ -139,6 +169,7 @@ fn put_and_take<P: Pool<u32>, R: Wait>(
 }
 
 // Two threads put and take; then their seats are joined.
+#[tactic(auto, using(crate::proofs::Apartness::apart_ones))]
 fn by_two<P: Pool<u32> + Sync, R: Threads + Wait + Sync>(
     rt: &R,
     alloc: Global,
@@ -150,21 +181,21 @@ fn by_two<P: Pool<u32> + Sync, R: Threads + Wait + Sync>(
 where
     P::Seat: Drop + Send,
     requires seats { P.belongs pool.now a × P.belongs pool.now b }
-    requires single { (length (P.account a).numbers ≡ 1) × (length (P.account b).numbers ≡ 1) }
+    requires numbers { ((P.account a).numbers ≡ first ∷ []) × ((P.account b).numbers ≡ (first + 1) ∷ []) }
     requires enough { 2 ≤ P.seats pool.now }
     requires first { first < 3 }
     ensures seat { P.belongs pool.now result.0 }
-    ensures numbers { length (P.account result.0).numbers ≡ 2 }
+    ensures numbers { (P.account result.0).numbers ≡ first ∷ (first + 1) ∷ [] }
 {
     let ((mut a, by_a), (b, by_b)) = thread::join(
         rt,
         move ||
-            requires { P.belongs pool.now a × (length (P.account a).numbers ≡ 1) × (first < 3) }
-            ensures { P.belongs pool.entry.now result.0 × (length (P.account result.0).numbers ≡ 1) }
+            requires { P.belongs pool.now a × ((P.account a).numbers ≡ first ∷ []) × (first < 3) }
+            ensures { P.belongs pool.entry.now result.0 × ((P.account result.0).numbers ≡ first ∷ []) }
         { put_and_take(rt, alloc, pool, a, first) },
         move ||
-            requires { P.belongs pool.now b × (length (P.account b).numbers ≡ 1) × (first < 3) }
-            ensures { P.belongs pool.entry.now result.0 × (length (P.account result.0).numbers ≡ 1) }
+            requires { P.belongs pool.now b × ((P.account b).numbers ≡ (first + 1) ∷ []) × (first < 3) }
+            ensures { P.belongs pool.entry.now result.0 × ((P.account result.0).numbers ≡ (first + 1) ∷ []) }
         { put_and_take(rt, alloc, pool, b, first + 1) },
     );
     pool.join(&mut a, b);
@@ -203,6 +234,7 @@ fn drain<P: Pool<u32>, R: Wait>(
 }
 
 // Whether four threads that put and take leave each number taken once.
+#[tactic(auto, using(crate::proofs::Apartness::apart_twos))]
 fn take_each_once<P: Pool<u32> + Sync, R: Threads + Wait + Sync>(
     rt: &R,
     alloc: Global,
@@ -213,20 +245,20 @@ where
     P::Seat: Drop + Send,
     requires first { P.belongs pool.now seats.0 × P.belongs pool.now seats.1 }
     requires second { P.belongs pool.now seats.2 × P.belongs pool.now seats.3 }
-    requires first_single { (length (P.account seats.0).numbers ≡ 1) × (length (P.account seats.1).numbers ≡ 1) }
-    requires second_single { (length (P.account seats.2).numbers ≡ 1) × (length (P.account seats.3).numbers ≡ 1) }
+    requires first_numbers { ((P.account seats.0).numbers ≡ 0 ∷ []) × ((P.account seats.1).numbers ≡ 1 ∷ []) }
+    requires second_numbers { ((P.account seats.2).numbers ≡ 2 ∷ []) × ((P.account seats.3).numbers ≡ 3 ∷ []) }
     requires enough { 4 ≤ P.seats pool.now }
 {
     let (a, b, c, d) = seats;
     let ((mut ab, by_a, by_b), (cd, by_c, by_d)) = thread::join(
         rt,
         move ||
-            requires { P.belongs pool.now a × P.belongs pool.now b × (length (P.account a).numbers ≡ 1) × (length (P.account b).numbers ≡ 1) × (4 ≤ P.seats pool.now) }
-            ensures { P.belongs pool.entry.now result.0 × (length (P.account result.0).numbers ≡ 2) }
+            requires { P.belongs pool.now a × P.belongs pool.now b × ((P.account a).numbers ≡ 0 ∷ []) × ((P.account b).numbers ≡ 1 ∷ []) × (4 ≤ P.seats pool.now) }
+            ensures { P.belongs pool.entry.now result.0 × ((P.account result.0).numbers ≡ 0 ∷ 1 ∷ []) }
         { by_two(rt, alloc, pool, a, b, 0) },
         move ||
-            requires { P.belongs pool.now c × P.belongs pool.now d × (length (P.account c).numbers ≡ 1) × (length (P.account d).numbers ≡ 1) × (4 ≤ P.seats pool.now) }
-            ensures { P.belongs pool.entry.now result.0 × (length (P.account result.0).numbers ≡ 2) }
+            requires { P.belongs pool.now c × P.belongs pool.now d × ((P.account c).numbers ≡ 2 ∷ []) × ((P.account d).numbers ≡ 3 ∷ []) × (4 ≤ P.seats pool.now) }
+            ensures { P.belongs pool.entry.now result.0 × ((P.account result.0).numbers ≡ 2 ∷ 3 ∷ []) }
         { by_two(rt, alloc, pool, c, d, 2) },
     );
     pool.join(&mut ab, cd);
@@ -263,6 +295,33 @@ fn start_four(alloc: Global) -> Result<(OneQueue<u32>, QueueSeats), AllocError>
 #[test]
 fn four_threads_take_each_once_from_one_queue(rt: HostRuntime) -> Result<(), Fail> {
     let (pool, seats) = start_four(rt.alloc())?;
+    assert_eq!(&rt; take_each_once(&rt, rt.alloc(), &pool, seats)?, true);
+    Ok(())
+}
+
+type StealSeats = (
+    StealSeat<u32>,
+    StealSeat<u32>,
+    StealSeat<u32>,
+    StealSeat<u32>,
+);
+
+fn start_four_deques(alloc: Global) -> Result<(Stealing<u32>, StealSeats), AllocError>
+    ensures pool { IfOk result (λ t. vec_len t.0.stealers ≡ 4) }
+    ensures first { IfOk result (λ t. IsNewStealSeat t.0 0 t.1.0 × IsNewStealSeat t.0 1 t.1.1) }
+    ensures second { IfOk result (λ t. IsNewStealSeat t.0 2 t.1.2 × IsNewStealSeat t.0 3 t.1.3) }
+{
+    let (pool, mut seats) = Stealing::start(alloc, 4, 4)?;
+    let d = seats.remove(3);
+    let c = seats.remove(2);
+    let b = seats.remove(1);
+    let a = seats.remove(0);
+    Ok((pool, (a, b, c, d)))
+}
+
+#[test]
+fn four_threads_take_each_once_from_deques(rt: HostRuntime) -> Result<(), Fail> {
+    let (pool, seats) = start_four_deques(rt.alloc())?;
     assert_eq!(&rt; take_each_once(&rt, rt.alloc(), &pool, seats)?, true);
     Ok(())
 }

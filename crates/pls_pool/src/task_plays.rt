@@ -42,19 +42,20 @@ impl<T> Join<Hand<T>> for Absorb {
 pub struct Puts;
 
 impl<T> Outcome<T, Hand<T>> for Puts {
-    ghost use Rattle.std.specs.Prelude.{◌≡◌};
+    ghost use Rattle.std.specs.Prelude.{◌≡◌, [], ◌∷◌};
     ghost use Rattle.pls_pool.specs.Hands.{putting};
 
-    ghost then = { λ v x w. w ≡ putting x v };
+    ghost then = { λ v x w. w ≡ putting (x ∷ []) v };
 }
 
 /// A task comes out of the queue, or there is none.
 pub struct Takes;
 
 impl<T> Outcome<T, Hand<T>> for Takes {
-    ghost use Rattle.pls_pool.specs.TaskRule.{TakesOne};
+    ghost use Rattle.std.specs.Prelude.{[], ◌∷◌};
+    ghost use Rattle.pls_pool.specs.TaskRule.{TakesFrom};
 
-    ghost then = { TakesOne };
+    ghost then = { λ v x w. TakesFrom v (x ∷ []) w };
 }
 
 impl<T> Lesson<T, Hand<T>> for Takes {
@@ -86,17 +87,6 @@ impl<T, W: Said<T>> Split<Hand<T>> for Notes<W> {
     ghost use Rattle.pls_pool.specs.Hands.{noting, spent};
 
     ghost left = { noting W.now };
-
-    ghost right = { λ v. spent };
-}
-
-/// The front of the spare list was taken.
-pub struct TakesSpare;
-
-impl<T> Split<Hand<T>> for TakesSpare {
-    ghost use Rattle.pls_pool.specs.Hands.{taking_spare, spent};
-
-    ghost left = { taking_spare };
 
     ghost right = { λ v. spent };
 }

@@ -1,4 +1,4 @@
-use Rattle.std.proofs.Common.{rules, ◌≡◌, ℕ, ◌+◌, ◌-◌, ◌≤◌, [], ◌∷◌, length, sym, ap, subst, ◌∙◌, arith}
+use Rattle.std.proofs.Common.{rules, ◌≡◌, ◌+◌, ◌-◌, ◌≤◌, length, sym, ap, subst, ◌∙◌, arith}
 use Rattle.std.specs.List.{range_with_len}
 use Rattle.crossbeam_queue.specs.Fifo.{Forks}
 use Rattle.pls_pool.specs.Hands.{started, giving, given}
@@ -40,6 +40,6 @@ loop-preserved g c =
       each_pushed (IsNewQueueSeat pool) c.loop.others.items c.seated-other.result from c.push.new.self.items count (search rules) c.loop.invariant.3
           (record {
             seat = c.seated-other.ensures.seat;
-            account = started_new _ pool.seats from (c.seated-other.ensures.hand ∙ c.another-other.ensures.rule.1 ∙ ap given c.loop.invariant.1 ∙ given_range pool.seats from (pool.seats + 1 - c.loop.counter) (omega arith));
+            account = started_new _ _ pool.seats from (c.seated-other.ensures.hand ∙ c.another-other.ensures.rule.1 ∙ ap given c.loop.invariant.1 ∙ given_range pool.seats from (pool.seats + 1 - c.loop.counter) (omega arith)) c.seated-other.ensures.bare;
           }),
     )

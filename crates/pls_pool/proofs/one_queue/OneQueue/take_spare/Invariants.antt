@@ -1,0 +1,7 @@
+use Rattle.std.proofs.Common.{Some}
+use Rattle.pls_pool.specs.Hands.{taking_spare}
+use Rattle.pls_pool.specs.QueueSeats.{hand_of}
+use Rattle.pls_pool.proofs.one_queue.OneQueue.take_spare.Given as goal
+
+abbrev pub ghosts-note_spare : goal.ghosts-note_spare
+ghosts-note_spare g a = record { now = Some (taking_spare a.task.now (hand_of a.seat.now)) }
