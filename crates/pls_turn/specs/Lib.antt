@@ -1,0 +1,4 @@
+pub mod Turns
+pub mod TurnRule
+pub mod Passes
+pub mod TurnSeats
