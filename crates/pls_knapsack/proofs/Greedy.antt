@@ -10,7 +10,7 @@ use Rattle.pls_vectors.specs.Solution.{Solution, chosen, with_item, no_items}
 use Rattle.pls_knapsack.specs.declared.knapsack.tally.Tally.{Tally}
 use Rattle.pls_knapsack.specs.Instance.{Instance, profit, weight, sum_of_chosen, fits, no_other_bit, feasible, filled, greedy}
 use Rattle.pls_knapsack.specs.Walk.{IsTally}
-use Rattle.pls_knapsack.proofs.Ranges.{list_all-range}
+use Rattle.pls_vectors.proofs.Ranges.{list_all-range}
 use Rattle.pls_knapsack.proofs.Tables.{zeros-at}
 use Rattle.pls_knapsack.proofs.Tallies.{feasible-fits, sum_of_chosen-no}
 

@@ -1,4 +1,3 @@
-pub mod Ranges
 pub mod Sums
 pub mod Stored
 pub mod Tables

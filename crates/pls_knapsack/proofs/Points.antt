@@ -6,7 +6,7 @@ use Rattle.pls_vectors.specs.Solution.{Solution, chosen, with_item}
 use Rattle.pls_knapsack.specs.Instance.{Instance, items_of, feasible}
 use Rattle.pls_knapsack.specs.Neighbours.{flipped, exchanges_of, point, points}
 use Rattle.pls_knapsack.specs.Walk.{point_if_feasible}
-use Rattle.pls_knapsack.proofs.Ranges.{drop-range, drop-range_end}
+use Rattle.pls_vectors.proofs.Ranges.{drop-range, drop-range_end}
 
 -- the points of one more choice, and of two lists
 pub points-cons :

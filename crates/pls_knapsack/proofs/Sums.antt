@@ -2,7 +2,7 @@
 use Rattle.std.proofs.Common.{◌≡◌, ◌≢◌, ℕ, ◌+◌, ◌<◌, Bool, true, false, cond, suc, zero, ap, sym, ◌∙◌, inl, inr, arith}
 use Rattle.std.specs.List.{range_with_len, sum_by}
 use Rattle.std.proofs.lemmas.Bool.{cases_eq}
-use Rattle.pls_knapsack.proofs.Ranges.{sum_by-range_suc, sum_by-range_same}
+use Rattle.pls_vectors.proofs.Ranges.{sum_by-range_suc, sum_by-range_same}
 
 -- the sum of f over the first n numbers that pass a test
 abbrev sum_of : (ℕ → Bool) → (ℕ → ℕ) → ℕ → ℕ

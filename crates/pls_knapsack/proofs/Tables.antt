@@ -9,7 +9,7 @@ use Rattle.std.proofs.lemmas.Grind.{flat_map-append}
 use Rattle.std.proofs.lemmas.List.{append-nil, ext_get_or, get_or_append_left, get_or-drop, get_or-take, get_or_past, get_or-replicate, length-map, length-replicate, length-take-le, take-append-drop}
 use Rattle.pls_knapsack.specs.declared.knapsack.amounts.Amounts.{Amounts}
 use Rattle.pls_knapsack.specs.Table.{item_at, IsTableOf, by_rows}
-use Rattle.pls_knapsack.proofs.Ranges.{range_with_len-suc}
+use Rattle.pls_vectors.proofs.Ranges.{range_with_len-suc}
 
 -- what holds of each item of a table, and of one more
 item_at-more :

@@ -16,7 +16,7 @@ use Rattle.pls_knapsack.specs.Instance.{Instance, IsWithinLimits, profit, weight
 use Rattle.pls_knapsack.specs.Neighbours.{point}
 use Rattle.pls_knapsack.specs.Table.{IsItem}
 use Rattle.pls_knapsack.specs.Walk.{IsTally, point_if_feasible}
-use Rattle.pls_knapsack.proofs.Ranges.{list_all-range, list_all-range_at, list_all-range_same, list_all-range_longer, sum_by-range_suc, sum_by-range_le, map-range_same}
+use Rattle.pls_vectors.proofs.Ranges.{list_all-range, list_all-range_at, list_all-range_same, list_all-range_longer, sum_by-range_suc, sum_by-range_le, map-range_same}
 use Rattle.pls_knapsack.proofs.Sums.{sum_of-put}
 
 -- a word with a bit changed has no bit beyond m either

@@ -1,10 +1,6 @@
 use Rattle.std.specs.Prelude.{ℕ, ◌+◌, ◌*◌, List, [], ◌∷◌, ◌++◌, take, drop, replicate}
+use Rattle.pls_vectors.specs.Limits.{Limits}
 use Rattle.pls_knapsack.specs.Instance.{Instance}
-
--- the numbers that may stand at a place of a text
-pub record Limits : Type 0 where
-  pub least : ℕ
-  pub most : ℕ
 
 -- the sizes of an instance: how many objectives, items and weight rows
 abbrev pub size_limits : List Limits

@@ -1,10 +1,14 @@
 mod ReadingDigits
 mod ReadingSteps
 mod ReadingSized
+pub mod Sizing
 mod ShuffleSteps
 mod Shuffles
-mod Starting
+pub mod Starting
+pub mod Feasible
 mod Making
+mod Limited
+mod LimitedReading
 pub mod NumberRanges
 mod WritingNumbers
 mod ReadBack

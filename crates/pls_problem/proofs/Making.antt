@@ -7,9 +7,11 @@ use Rattle.std.proofs.lemmas.List.Sums.{sum_by-le}
 use Rattle.std.proofs.lemmas.List.{length-take}
 use Rattle.rand_core.specs.Stream.{Stream, next_u64}
 use Rattle.pls_problem.specs.Rows.{row_of}
-use Rattle.pls_knapsack.specs.Instance.{instance_from}
-use Rattle.pls_problem.specs.Made.{drawn, half_sums, made_knapsack}
-use Rattle.pls_problem.proofs.ReadingSized.{rows}
+use Rattle.pls_problem.specs.declared.kind.Kind.{Kind}
+use Rattle.pls_problem.specs.declared.kind.Kind.TheVariants.{Knapsack}
+use Rattle.pls_problem.specs.declared.sizes.Sizes.{Sizes}
+use Rattle.pls_problem.specs.Made.{drawn, half_sums}
+use Rattle.pls_problem.specs.Sizes.{AreNumbersOf, amount_count, capacities_for}
 
 abbrev with_next : List ℕ × Stream → List ℕ × Stream
 with_next some = (some.0 ++ (1 + (next_u64 some.1).0 % 100) ∷ [], (next_u64 some.1).1)
@@ -50,19 +52,15 @@ half_sums-push row items weights sums more done next =
 pub length-half_sums : (rules items : ℕ) (weights : List ℕ) → length (half_sums rules items weights) ≡ rules
 length-half_sums rules items weights = length-map-range_with_len (λ r. sum (row_of items r weights) / 2) 0 rules
 
--- what was drawn makes the instance
-pub instance_from-drawn :
-    (objectives items rules : ℕ) (words words' words'' : Stream) (profits weights capacities : List ℕ) → 1 ≤ items
-    → (profits, words') ≡ drawn (objectives * items) words → (weights, words'') ≡ drawn (rules * items) words'
-    → capacities ≡ half_sums rules items weights → length profits ≡ objectives * items
-    → instance_from items profits capacities weights ≡ made_knapsack objectives items rules words
-instance_from-drawn objectives items rules words words' words'' profits weights capacities some first second halves count =
-    let drawn_profits = drawn (objectives * items) words in
-    let is_profits : profits ≡ drawn_profits.0 = ap (λ (d : List ℕ × Stream). d.0) first in
-    let is_weights : weights ≡ (drawn (rules * items) drawn_profits.1).0 =
-    ap (λ (d : List ℕ × Stream). d.0) (second ∙ ap (λ (d : List ℕ × Stream). drawn (rules * items) d.1) first) in
-    let is_objectives : objectives ≡ length profits / items = rows objectives items profits count some in
-    let is_rules : rules ≡ length capacities = sym (ap (λ (xs : List ℕ). length xs) halves ∙ length-half_sums rules items weights) in
-    let is_capacities : capacities ≡ half_sums rules items (drawn (rules * items) drawn_profits.1).0 =
-    halves ∙ ap (half_sums rules items) is_weights in
-    cc
+-- the numbers of a knapsack that is made
+pub numbers_made :
+    (s : Sizes) (capacities amounts weights : List ℕ) → s.kind ≡ Knapsack → length amounts ≡ amount_count s → All (λ n. n ≤ 100) amounts
+    → capacities ≡ half_sums s.rules s.size weights → All (λ n. n ≤ 1000000000) capacities → AreNumbersOf s capacities amounts
+numbers_made s capacities amounts weights is many small halves small_halves = record {
+  capacity_list =
+      ap (λ (xs : List ℕ). length xs) halves
+      ∙ (length-half_sums s.rules s.size weights ∙ ap (λ (k : Kind). capacities_for k s.rules) (sym is));
+  amount_list = many;
+  small_capacities = small_halves;
+  small_amounts = λ k d inside. (let h = small k d inside in omega arith);
+}

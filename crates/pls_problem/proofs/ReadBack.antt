@@ -4,26 +4,35 @@ use Rattle.std.proofs.lemmas.Bool.{and_from, and_parts, le-leb}
 use Rattle.std.proofs.lemmas.Fmt.{decimal_is_IsNumeral, decimal_nonempty, decimal_by_steps}
 use Rattle.std.proofs.lemmas.List.{length-append, length-take, length-drop, take_all, replicate-append-replicate}
 use Rattle.std.proofs.lemmas.List.Elements.{All-head, All-tail, All-take, All-drop}
-use Rattle.std.proofs.Math.Nat.{suc-mul}
+use Rattle.std.proofs.Math.Nat.{suc-mul, add-mul}
 use Rattle.std.proofs.Math.Seq.{take-add}
 use Rattle.std.specs.Char.{is_ascii_digit}
 use Rattle.std.specs.Fmt.{decimal}
 use Rattle.std.specs.List.{All, list_all}
-use Rattle.std.specs.Prelude.{◌==◌, nat_le, codes, slice_index}
+use Rattle.std.specs.Prelude.{◌==◌, nat_le, codes}
 use Rattle.std.specs.Str.{all_ascii_digits}
 use Rattle.pls_io.specs.Words.{PlacedWord, is_word_byte, uncommented, words_from}
 use Rattle.pls_io.proofs.WordSteps.{words-word}
-use Rattle.pls_knapsack.specs.Text.{Limits, size_limits}
-use Rattle.pls_knapsack.specs.Instance.{IsWithinLimits, instance_from, Instance as Items}
+use Rattle.pls_vectors.specs.Limits.{Limits}
+use Rattle.pls_knapsack.specs.Instance as knapsack
+use Rattle.pls_knapsack.specs.Instance.{Instance as Items}
+use Rattle.pls_perms.specs.Assignment as assignment
+use Rattle.pls_perms.specs.Assignment.{AssignmentInstance as Costs}
+use Rattle.pls_perms.specs.Tour as tour
+use Rattle.pls_perms.specs.Tour.{TourInstance as Edges, edge_count}
 use Rattle.pls_problem.specs.declared.instance.Instance.{Instance}
-use Rattle.pls_problem.specs.declared.instance.Instance.TheVariants.{Knapsack}
+use Rattle.pls_problem.specs.declared.instance.Instance.TheVariants.{Knapsack, Assignment, Tour}
+use Rattle.pls_problem.specs.declared.kind.Kind.{Kind}
+use Rattle.pls_problem.specs.declared.kind.Kind.TheVariants as kind
 use Rattle.pls_problem.specs.declared.reader.BadInstance.{BadInstance}
-use Rattle.pls_problem.specs.Reading.{reading_then, within, number_of, numbers, sized, knapsack_of, kind_of, headed_by, instance}
+use Rattle.pls_problem.specs.Kinds.{kind_name, size_limits, number_limits, instance_of}
+use Rattle.pls_problem.specs.Reading.{reading_then, within, number_of, numbers, sized, of_kind, after_head, headed_by, instance}
 use Rattle.pls_problem.specs.Rows.{row_of}
-use Rattle.pls_problem.specs.Text.{numbers_line, numbers_text, rows_text, head_line, knapsack_text}
+use Rattle.pls_problem.specs.Text.{numbers_line, numbers_text, rows_text, head_line, knapsack_text, assignment_text, tour_text}
 use Rattle.pls_problem.proofs.ReadingSteps.{Read, after, numbers-then}
 use Rattle.pls_problem.proofs.ReadingDigits.{digit_range}
-use Rattle.pls_problem.proofs.ReadingSized.{up_to, wanted, ended, sized-wanted, instance_of-parts, rows}
+use Rattle.pls_problem.proofs.ReadingSized.{up_to, large, small, ended}
+use Rattle.pls_problem.proofs.Sizing.{rows, knapsack-parts, some_edges}
 use Rattle.pls_problem.proofs.NumberRanges.{flat_map-range-more}
 
 digits_push : (ds : List ℕ) (d : ℕ) → all_ascii_digits ds ≡ true → is_ascii_digit d ≡ true → all_ascii_digits (ds ++ d ∷ []) ≡ true
@@ -187,82 +196,134 @@ module _ (end : ℕ) where
       (take_all (rows * items) table (omega arith))
       (reads_rows (up_to most) items table allowed some rows (rows * items) refl (omega arith))
 
-  -- the lines after the first one
-  abbrev body : Items → List ℕ
-  body k = numbers_line k.capacities ++ (rows_text k.objectives k.items k.profits ++ rows_text k.rules k.items k.weights)
-
-  reads_capacities : (k : Items) → IsWithinLimits k → Reads (replicate k.rules (up_to 1000000000)) (numbers_line k.capacities) k.capacities
+  reads_capacities : (k : Items) → knapsack.IsWithinLimits k → Reads (replicate k.rules large) (numbers_line k.capacities) k.capacities
   reads_capacities k limits =
-      let allowed : All (λ n. Allows (up_to 1000000000) n) k.capacities =
+      let allowed : All (λ n. Allows large n) k.capacities =
       λ i d inside. record { least = omega arith; most = limits.small_capacities i d inside; short = omega (arith, limits.small_capacities i d inside) } in
-      subst (λ (n : ℕ). Reads (replicate n (up_to 1000000000)) (numbers_line k.capacities) k.capacities) limits.capacity_list
-      (reads_line (replicate (length k.capacities) (up_to 1000000000)) k.capacities
-      (allowed_all (up_to 1000000000) k.capacities allowed) (rw limits.capacity_list limits.some_rules))
+      subst (λ (n : ℕ). Reads (replicate n large) (numbers_line k.capacities) k.capacities) limits.capacity_list
+      (reads_line (replicate (length k.capacities) large) k.capacities
+      (allowed_all large k.capacities allowed) (rw limits.capacity_list limits.some_rules))
 
-  reads_body : (k : Items) → IsWithinLimits k → Reads (wanted k.objectives k.items k.rules) (body k) (k.capacities ++ (k.profits ++ k.weights))
-  reads_body k limits =
-      reads_both _ _ _ _ _ _ (reads_capacities k limits)
+  -- the lines after the first one
+  knapsack_body : Items → List ℕ
+  knapsack_body k = numbers_line k.capacities ++ (rows_text k.objectives k.items k.profits ++ rows_text k.rules k.items k.weights)
+
+  reads_knapsack :
+      (k : Items) → knapsack.IsWithinLimits k
+      → Reads (number_limits kind.Knapsack (k.objectives ∷ k.items ∷ k.rules ∷ [])) (knapsack_body k) (k.capacities ++ (k.profits ++ k.weights))
+  unfolding knapsack_body number_limits
+  reads_knapsack k limits =
+      subst (λ (w : List Limits). Reads (replicate k.rules large ++ w) (knapsack_body k) (k.capacities ++ (k.profits ++ k.weights)))
+      (replicate-append-replicate (k.objectives * k.items) (k.rules * k.items) small
+      ∙ ap (λ (n : ℕ). replicate n small) (sym (add-mul k.objectives k.rules k.items)))
+      (reads_both _ _ _ _ _ _ (reads_capacities k limits)
       (reads_both _ _ _ _ _ _
       (reads_table 1000000 k.objectives k.items k.profits (lit< tt) limits.small_profits limits.some_items limits.profit_rows)
-      (reads_table 1000000 k.rules k.items k.weights (lit< tt) limits.small_weights limits.some_items limits.weight_rows))
+      (reads_table 1000000 k.rules k.items k.weights (lit< tt) limits.small_weights limits.some_items limits.weight_rows)))
 
-  instance_from-same : (k : Items) → IsWithinLimits k → instance_from k.items k.profits k.capacities k.weights ≡ k
-  instance_from-same k limits =
-      ap (λ (o : ℕ). record k { objectives = o; rules = length k.capacities }) (sym (rows k.objectives k.items k.profits limits.profit_rows limits.some_items))
-      ∙ ap (λ (r : ℕ). record k { rules = r }) limits.capacity_list
+  reads_assignment :
+      (k : Costs) → assignment.IsWithinLimits k
+      → Reads (number_limits kind.Assignment (k.objectives ∷ k.agents ∷ [])) (rows_text (k.objectives * k.agents) k.agents k.costs) k.costs
+  unfolding number_limits
+  reads_assignment k limits =
+      reads_table 1000000 (k.objectives * k.agents) k.agents k.costs (lit< tt) limits.small_costs limits.some_agents limits.matrices
 
-  sized-written :
-      (k : Items) → IsWithinLimits k → (place : ℕ) → sized end k.objectives k.items k.rules (words_of place (body k)) ≡ Ok k
-  sized-written k limits place =
-      sized-wanted end k.objectives k.items k.rules (words_of place (body k))
-      ∙ (ap (λ (t : List ℕ). ended k.objectives k.items k.rules (numbers end (wanted k.objectives k.items k.rules) (words_of place t))) (sym (append-nil (body k)))
-      ∙ (ap (ended k.objectives k.items k.rules) ((reads_body k limits).reads place [])
-      ∙ ap (λ (q : Items). Ok q)
-      (instance_of-parts k.items k.capacities k.profits k.weights k.objectives k.rules limits.capacity_list limits.profit_rows limits.some_items
-      ∙ instance_from-same k limits)))
+  reads_tour :
+      (k : Edges) → tour.IsWithinLimits k
+      → Reads (number_limits kind.Tour (k.objectives ∷ k.cities ∷ [])) (rows_text k.objectives (edge_count k.cities) k.edges) k.edges
+  unfolding number_limits
+  reads_tour k limits =
+      reads_table 1000000 k.objectives (edge_count k.cities) k.edges (lit< tt) limits.small_edges (some_edges k.cities limits.some_cities) limits.lists
 
-  reads_sizes : (k : Items) → IsWithinLimits k → Reads size_limits (numbers_line (k.objectives ∷ k.items ∷ k.rules ∷ [])) (k.objectives ∷ k.items ∷ k.rules ∷ [])
-  reads_sizes k limits =
-      reads_line size_limits (k.objectives ∷ k.items ∷ k.rules ∷ []) (
-        record { least = limits.some_objectives; most = limits.few_objectives; short = omega (arith, limits.few_objectives) },
-        (
-          record { least = limits.some_items; most = limits.few_items; short = omega (arith, limits.few_items) },
-          (record { least = limits.some_rules; most = limits.few_rules; short = omega (arith, limits.few_rules) }, tt),
-        ),
-      )
-      (lit< tt)
+  some_objectives : (least most n : ℕ) → least ≤ n → n ≤ most → most ≤ 256 → Allows (record { least = least; most = most }) n
+  some_objectives least most n low high small = record { least = low; most = high; short = omega arith }
 
-  knapsack_of-written :
-      (k : Items) → IsWithinLimits k → (place : ℕ)
-      → knapsack_of end (words_of place (numbers_line (k.objectives ∷ k.items ∷ k.rules ∷ []) ++ body k)) ≡ Ok k
-  knapsack_of-written k limits place =
-      ap (λ (r : Result Read BadInstance). reading_then (λ (sizes : Read). sized end (slice_index sizes.0 0) (slice_index sizes.0 1) (slice_index sizes.0 2) sizes.1) r)
-      ((reads_sizes k limits).reads place (body k))
-      ∙ sized-written k limits _
+  -- ---- the words before the sizes
+
+  named_word :
+      (k : Kind) (place : ℕ) (rest : List ℕ)
+      → after_head end (words_of place (kind_name k ++ (32 ∷ rest))) ≡ of_kind end k (words_of (place + length (kind_name k) + 1) rest)
+  named_word kind.Knapsack place rest = ap (after_head end) (words-word place (codes "knapsack") 32 rest refl (lit< tt) refl refl)
+  named_word kind.Assignment place rest = ap (after_head end) (words-word place (codes "assignment") 32 rest refl (lit< tt) refl refl)
+  named_word kind.Tour place rest = ap (after_head end) (words-word place (codes "tour") 32 rest refl (lit< tt) refl refl)
 
   headed_by-written :
-      (k : Items) → IsWithinLimits k
-      → headed_by end (words_of 0 (codes "pls1 knapsack " ++ (numbers_line (k.objectives ∷ k.items ∷ k.rules ∷ []) ++ body k))) ≡ Ok (Knapsack k)
-  headed_by-written k limits =
-      let rest = numbers_line (k.objectives ∷ k.items ∷ k.rules ∷ []) ++ body k in
-      ap (headed_by end) (words-word 0 (codes "pls1") 32 (codes "knapsack " ++ rest) refl (lit< tt) refl refl)
-      ∙ (ap (kind_of end) (words-word 5 (codes "knapsack") 32 rest refl (lit< tt) refl refl)
-      ∙ ap (λ (r : Result Items BadInstance). reading_then (λ (q : Items). Ok (Knapsack q)) r) (knapsack_of-written k limits 14))
+      (k : Kind) (sizes : List ℕ) (body ns : List ℕ) → Reads (size_limits k) (numbers_line sizes) sizes → Reads (number_limits k sizes) body ns
+      → headed_by end (words_of 0 (codes "pls1 " ++ (kind_name k ++ (32 ∷ (numbers_line sizes ++ body))))) ≡ Ok (instance_of k sizes ns)
+  headed_by-written k sizes body ns of_sizes of_numbers =
+      let rest = numbers_line sizes ++ body in
+      let first = 5 + length (kind_name k) + 1 in
+      let later = first + length (numbers_line sizes) in
+      ap (headed_by end) (words-word 0 (codes "pls1") 32 (kind_name k ++ (32 ∷ rest)) refl (lit< tt) refl refl)
+      ∙ (named_word k 5 rest
+      ∙ (ap (λ (r : Result Read BadInstance). reading_then (λ (read : Read). sized end k read.0 read.1) r) (of_sizes.reads first body)
+      ∙ (ap (λ (t : List ℕ). sized end k sizes (words_of later t)) (sym (append-nil body))
+      ∙ ap (λ (r : Result Read BadInstance). ended k sizes r) (of_numbers.reads later []))))
+
+-- a text of this form reads as that instance
+read_as :
+    (k : Kind) (sizes body ns : List ℕ)
+    → ((end : ℕ) → Reads end (size_limits k) (numbers_line sizes) sizes) → ((end : ℕ) → Reads end (number_limits k sizes) body ns)
+    → instance (head_line k sizes ++ body) ≡ Ok (instance_of k sizes ns)
+read_as k sizes body ns of_sizes of_numbers =
+    let end = length (head_line k sizes ++ body) in
+    ap (λ (t : List ℕ). headed_by end (words_of 0 (codes "pls1 " ++ t)))
+    (append_assoc (kind_name k ++ codes " ") (numbers_line sizes) body
+    ∙ append_assoc (kind_name k) (codes " ") (numbers_line sizes ++ body))
+    ∙ headed_by-written end k sizes body ns (of_sizes end) (of_numbers end)
+
+instance_from-same : (k : Items) → knapsack.IsWithinLimits k → knapsack.instance_from k.items k.profits k.capacities k.weights ≡ k
+instance_from-same k limits =
+    ap (λ (o : ℕ). record k { objectives = o; rules = length k.capacities }) (sym (rows k.objectives k.items k.profits limits.profit_rows limits.some_items))
+    ∙ ap (λ (r : ℕ). record k { rules = r }) limits.capacity_list
 
 -- the text of a knapsack reads as that knapsack
-pub instance-knapsack_text : (k : Items) → IsWithinLimits k → instance (knapsack_text k) ≡ Ok (Knapsack k)
+pub instance-knapsack_text : (k : Items) → knapsack.IsWithinLimits k → instance (knapsack_text k) ≡ Ok (Knapsack k)
+unfolding knapsack_body size_limits instance_of
 instance-knapsack_text k limits =
-    let end = length (knapsack_text k) in
+    let sizes = k.objectives ∷ k.items ∷ k.rules ∷ [] in
+    let head = head_line kind.Knapsack sizes in
     let lines = numbers_line k.capacities in
     let profits = rows_text k.objectives k.items k.profits in
     let weights = rows_text k.rules k.items k.weights in
-    ap (λ (t : List ℕ). headed_by end (words_of 0 t))
-    (append_assoc (head_line k ++ lines) profits weights ∙ append_assoc (head_line k) lines (profits ++ weights))
-    ∙ headed_by-written end k limits
+    ap instance (append_assoc (head ++ lines) profits weights ∙ append_assoc head lines (profits ++ weights))
+    ∙ (read_as kind.Knapsack sizes (lines ++ (profits ++ weights)) (k.capacities ++ (k.profits ++ k.weights))
+    (λ end. reads_line end _ sizes (
+      some_objectives end 2 4 k.objectives limits.some_objectives limits.few_objectives (omega arith),
+      (
+        some_objectives end 1 256 k.items limits.some_items limits.few_items (omega arith),
+        (some_objectives end 1 8 k.rules limits.some_rules limits.few_rules (omega arith), tt),
+      ),
+    ) (lit< tt))
+    (λ end. reads_knapsack end k limits)
+    ∙ ap (λ (q : Items). Ok (Knapsack q))
+    (knapsack-parts k.items k.capacities k.profits k.weights k.objectives k.rules limits.capacity_list limits.profit_rows limits.some_items
+    ∙ instance_from-same k limits))
 
--- the same of an instance, whose text was written from nothing on
-pub instance-written :
-    (i : Instance) (k : Items) (text before : List ℕ) → i ≡ Knapsack k → before ≡ [] → text ≡ before ++ knapsack_text k
-    → instance (knapsack_text k) ≡ Ok (Knapsack k) → instance text ≡ Ok i
-instance-written i k text before is none written back =
-    ap instance (written ∙ ap (λ (t : List ℕ). t ++ knapsack_text k) none) ∙ (back ∙ ap (λ (j : Instance). Ok j) (sym is))
+-- the same of an assignment
+pub instance-assignment_text : (k : Costs) → assignment.IsWithinLimits k → instance (assignment_text k) ≡ Ok (Assignment k)
+unfolding size_limits instance_of
+instance-assignment_text k limits =
+    let sizes = k.objectives ∷ k.agents ∷ [] in
+    read_as kind.Assignment sizes (rows_text (k.objectives * k.agents) k.agents k.costs) k.costs
+    (λ end. reads_line end _ sizes (
+      some_objectives end 2 4 k.objectives limits.some_objectives limits.few_objectives (omega arith),
+      (some_objectives end 1 256 k.agents limits.some_agents limits.few_agents (omega arith), tt),
+    ) (lit< tt))
+    (λ end. reads_assignment end k limits)
+
+-- and of a tour
+pub instance-tour_text : (k : Edges) → tour.IsWithinLimits k → instance (tour_text k) ≡ Ok (Tour k)
+unfolding size_limits instance_of
+instance-tour_text k limits =
+    let sizes = k.objectives ∷ k.cities ∷ [] in
+    read_as kind.Tour sizes (rows_text k.objectives (edge_count k.cities) k.edges) k.edges
+    (λ end. reads_line end _ sizes (
+      some_objectives end 2 4 k.objectives limits.some_objectives limits.few_objectives (omega arith),
+      (some_objectives end 3 256 k.cities limits.some_cities limits.few_cities (omega arith), tt),
+    ) (lit< tt))
+    (λ end. reads_tour end k limits)
+
+-- what was written from nothing on
+pub written-alone : (i : Instance) (text before written : List ℕ) → before ≡ [] → text ≡ before ++ written → instance written ≡ Ok i → instance text ≡ Ok i
+written-alone i text before written none same back = ap instance (same ∙ ap (λ (t : List ℕ). t ++ written) none) ∙ back

@@ -1,139 +1,66 @@
--- The numbers behind the sizes of a knapsack: capacities, profits and weights, one after another.
-use Rattle.std.proofs.Common.{◌≡◌, ◌≤◌, ℕ, ◌+◌, ◌*◌, ◌/◌, List, ◌++◌, length, take, drop, replicate, Result, Ok, Err, refl, ap, sym, ◌∙◌, arith}
-use Rattle.std.proofs.lemmas.List.{replicate-append-replicate}
-use Rattle.std.proofs.Math.Nat.{mul-div_cancel, add-mul}
-use Rattle.std.proofs.Math.Seq.{take-append_seam, drop-append_seam, drop-append-add}
-use Rattle.std.specs.List.{All}
+-- The numbers behind the sizes: capacities, and then profits and weights, costs or edges.
+use Rattle.std.proofs.Common.{◌≡◌, ℕ, List, ◌++◌, replicate, Result, Err, Ok, refl, sym, ap, ◌∙◌}
 use Rattle.pls_io.specs.Words.{PlacedWord}
-use Rattle.pls_knapsack.specs.Instance.{Instance, IsWithinLimits, instance_from}
-use Rattle.pls_knapsack.specs.Text.{Limits, number_limits, instance_of}
+use Rattle.pls_vectors.specs.Limits.{Limits}
+use Rattle.pls_problem.specs.declared.kind.Kind.{Kind}
+use Rattle.pls_problem.specs.declared.kind.Kind.TheVariants.{Knapsack, Assignment, Tour}
+use Rattle.pls_problem.specs.declared.instance.Instance.{Instance}
 use Rattle.pls_problem.specs.declared.reader.BadInstance.{BadInstance}
+use Rattle.pls_problem.specs.declared.sizes.Sizes.{Sizes}
+use Rattle.pls_problem.specs.Kinds.{number_limits, instance_of}
 use Rattle.pls_problem.specs.Reading.{reading_then, numbers, ended_with, sized}
+use Rattle.pls_problem.specs.Sizes.{listed, in_text, capacities_for, amounts_for, capacity_count, amount_count}
 use Rattle.pls_problem.proofs.ReadingSteps.{Read, after, numbers-then, numbers-fault}
 
 abbrev pub up_to : ℕ → Limits
 up_to most = record { least = 0; most = most }
 
+abbrev pub large : Limits
+large = up_to 1000000000
+
 abbrev pub small : Limits
 small = up_to 1000000
 
--- the three lists of numbers, in their order
-abbrev pub wanted : ℕ → ℕ → ℕ → List Limits
-wanted objectives items rules =
-    replicate rules (up_to 1000000000) ++ (replicate (objectives * items) small ++ replicate (rules * items) small)
+-- both lists of numbers, in their order
+abbrev pub wanted : ℕ → ℕ → List Limits
+wanted capacities amounts = replicate capacities large ++ replicate amounts small
 
-number_limits-wanted : (objectives items rules : ℕ) → number_limits objectives items rules ≡ wanted objectives items rules
-number_limits-wanted objectives items rules =
-    ap (λ (more : List Limits). replicate rules (up_to 1000000000) ++ more)
-    (ap (λ (n : ℕ). replicate n small) (add-mul objectives rules items)
-    ∙ sym (replicate-append-replicate (objectives * items) (rules * items) small))
+number_limits-listed :
+    (kind : Kind) (objectives size rules : ℕ)
+    → number_limits kind (listed kind objectives size rules) ≡ wanted (capacities_for kind rules) (amounts_for kind objectives size rules)
+unfolding number_limits
+number_limits-listed Knapsack objectives size rules = refl
+number_limits-listed Assignment objectives size rules = refl
+number_limits-listed Tour objectives size rules = refl
 
-abbrev pub ended : ℕ → ℕ → ℕ → Result Read BadInstance → Result Instance BadInstance
-ended objectives items rules r =
-    reading_then (λ (rest : Read). ended_with (instance_of objectives items rules rest.0) rest.1) r
+pub number_limits-wanted : (s : Sizes) → number_limits s.kind (in_text s) ≡ wanted (capacity_count s) (amount_count s)
+number_limits-wanted s = number_limits-listed s.kind s.objectives s.size s.rules
 
-pub sized-wanted :
-    (end objectives items rules : ℕ) (words : List PlacedWord)
-    → sized end objectives items rules words ≡ ended objectives items rules (numbers end (wanted objectives items rules) words)
-sized-wanted end objectives items rules words =
-    ap (λ (limits : List Limits). ended objectives items rules (numbers end limits words))
-    (number_limits-wanted objectives items rules)
+abbrev pub ended : Kind → List ℕ → Result Read BadInstance → Result Instance BadInstance
+ended kind sizes r = reading_then (λ (rest : Read). ended_with (instance_of kind sizes rest.0) rest.1) r
 
-pub rows : (objectives items : ℕ) (profits : List ℕ) → length profits ≡ objectives * items → 1 ≤ items → objectives ≡ length profits / items
-rows objectives items profits p some =
-    sym (mul-div_cancel objectives (omega arith)) ∙ ap (λ (n : ℕ). n / items) (sym p)
+-- so many capacities and so many amounts are read
+module _ (end : ℕ) (s : Sizes) (m n : ℕ) (of_m : m ≡ capacity_count s) (of_n : n ≡ amount_count s) (words : List PlacedWord) where
+  sized-wanted : sized end s.kind (in_text s) words ≡ ended s.kind (in_text s) (numbers end (wanted m n) words)
+  sized-wanted =
+      ap (λ (limits : List Limits). ended s.kind (in_text s) (numbers end limits words))
+      (number_limits-wanted s ∙ (ap (λ (k : ℕ). wanted k (amount_count s)) (sym of_m) ∙ ap (wanted m) (sym of_n)))
 
--- the lists that an instance is made of are the parts of the numbers
-pub instance_of-parts :
-    (items : ℕ) (capacities profits weights : List ℕ) (objectives rules : ℕ)
-    → length capacities ≡ rules → length profits ≡ objectives * items → 1 ≤ items
-    → instance_of objectives items rules (capacities ++ (profits ++ weights)) ≡ instance_from items profits capacities weights
-instance_of-parts items capacities profits weights objectives rules c p some =
-    let all = capacities ++ (profits ++ weights) in
-    let o : objectives ≡ length profits / items = rows objectives items profits p some in
-    let behind : drop rules all ≡ profits ++ weights =
-    ap (λ (n : ℕ). drop n all) (sym c) ∙ drop-append_seam capacities (profits ++ weights) in
-    let first : take rules all ≡ capacities =
-    ap (λ (n : ℕ). take n all) (sym c) ∙ take-append_seam capacities (profits ++ weights) in
-    let middle : take (objectives * items) (drop rules all) ≡ profits =
-    ap (take (objectives * items)) behind ∙ (ap (λ (n : ℕ). take n (profits ++ weights)) (sym p) ∙ take-append_seam profits weights) in
-    let last : drop (rules + objectives * items) all ≡ weights =
-    ap (λ (n : ℕ). drop (n + objectives * items) all) (sym c)
-    ∙ (drop-append-add capacities (profits ++ weights) (objectives * items)
-    ∙ (ap (λ (n : ℕ). drop n (profits ++ weights)) (sym p) ∙ drop-append_seam profits weights)) in
-    cc
-
--- numbers within their limits, as many as the sizes call for, make an instance within its limits
-pub within_limits :
-    (items : ℕ) (capacities profits weights : List ℕ) (objectives rules : ℕ)
-    → (2 ≤ objectives) × (objectives ≤ 4) → (1 ≤ items) × (items ≤ 256) → (1 ≤ rules) × (rules ≤ 8)
-    → length capacities ≡ rules → length profits ≡ objectives * items → length weights ≡ rules * items
-    → All (λ n. n ≤ 1000000000) capacities → All (λ n. n ≤ 1000000) profits → All (λ n. n ≤ 1000000) weights
-    → IsWithinLimits (instance_from items profits capacities weights)
-within_limits items capacities profits weights objectives rules os is rs c p w small_c small_p small_w =
-    let o : objectives ≡ length profits / items = rows objectives items profits p is.0 in
-    record {
-      some_items = is.0;
-      few_items = is.1;
-      some_objectives = rw (← o) os.0;
-      few_objectives = rw (← o) os.1;
-      some_rules = rw c rs.0;
-      few_rules = rw c rs.1;
-      profit_rows = p ∙ ap (λ (n : ℕ). n * items) o;
-      capacity_list = refl;
-      weight_rows = w ∙ ap (λ (n : ℕ). n * items) (sym c);
-      small_profits = small_p;
-      small_capacities = small_c;
-      small_weights = small_w;
-    }
-
-module _ (end objectives items rules : ℕ) (words : List PlacedWord) where
-  pub fault_in_capacities :
-      (e : BadInstance) → numbers end (replicate rules (up_to 1000000000)) words ≡ Err e
-      → sized end objectives items rules words ≡ Err e
+  pub fault_in_capacities : (e : BadInstance) → numbers end (replicate m large) words ≡ Err e → sized end s.kind (in_text s) words ≡ Err e
   fault_in_capacities e fault =
-      sized-wanted end objectives items rules words
-      ∙ ap (ended objectives items rules)
-      (numbers-fault end (replicate rules (up_to 1000000000)) (replicate (objectives * items) small ++ replicate (rules * items) small) words e fault)
+      sized-wanted ∙ ap (ended s.kind (in_text s)) (numbers-fault end (replicate m large) (replicate n small) words e fault)
 
-  module _ (capacities : List ℕ) (left : List PlacedWord) (read : numbers end (replicate rules (up_to 1000000000)) words ≡ Ok (capacities, left)) where
-    sized-behind :
-        sized end objectives items rules words
-        ≡ ended objectives items rules (after capacities (numbers end (replicate (objectives * items) small ++ replicate (rules * items) small) left))
+  module _ (capacities : List ℕ) (left : List PlacedWord) (read : numbers end (replicate m large) words ≡ Ok (capacities, left)) where
+    sized-behind : sized end s.kind (in_text s) words ≡ ended s.kind (in_text s) (after capacities (numbers end (replicate n small) left))
     sized-behind =
-        sized-wanted end objectives items rules words
-        ∙ ap (ended objectives items rules)
-        (numbers-then end (replicate rules (up_to 1000000000)) (replicate (objectives * items) small ++ replicate (rules * items) small) words capacities left read)
+        sized-wanted ∙ ap (ended s.kind (in_text s)) (numbers-then end (replicate m large) (replicate n small) words capacities left read)
 
-    pub fault_in_profits :
-        (e : BadInstance) → numbers end (replicate (objectives * items) small) left ≡ Err e
-        → sized end objectives items rules words ≡ Err e
-    fault_in_profits e fault =
-        sized-behind
-        ∙ ap (λ (r : Result Read BadInstance). ended objectives items rules (after capacities r))
-        (numbers-fault end (replicate (objectives * items) small) (replicate (rules * items) small) left e fault)
+    pub fault_in_amounts : (e : BadInstance) → numbers end (replicate n small) left ≡ Err e → sized end s.kind (in_text s) words ≡ Err e
+    fault_in_amounts e fault = sized-behind ∙ ap (λ (r : Result Read BadInstance). ended s.kind (in_text s) (after capacities r)) fault
 
-    module _ (profits : List ℕ) (left' : List PlacedWord) (read' : numbers end (replicate (objectives * items) small) left ≡ Ok (profits, left')) where
-      sized-last :
-          sized end objectives items rules words
-          ≡ ended objectives items rules (after capacities (after profits (numbers end (replicate (rules * items) small) left')))
-      sized-last =
-          sized-behind
-          ∙ ap (λ (r : Result Read BadInstance). ended objectives items rules (after capacities r))
-          (numbers-then end (replicate (objectives * items) small) (replicate (rules * items) small) left profits left' read')
-
-      pub fault_in_weights :
-          (e : BadInstance) → numbers end (replicate (rules * items) small) left' ≡ Err e
-          → sized end objectives items rules words ≡ Err e
-      fault_in_weights e fault =
-          sized-last
-          ∙ ap (λ (r : Result Read BadInstance). ended objectives items rules (after capacities (after profits r))) fault
-
-      -- all numbers were read
-      pub sized-read :
-          (weights : List ℕ) (left'' : List PlacedWord) → numbers end (replicate (rules * items) small) left' ≡ Ok (weights, left'')
-          → sized end objectives items rules words
-          ≡ ended_with (instance_of objectives items rules (capacities ++ (profits ++ weights))) left''
-      sized-read weights left'' read'' =
-          sized-last
-          ∙ ap (λ (r : Result Read BadInstance). ended objectives items rules (after capacities (after profits r))) read''
+    -- all numbers were read
+    pub sized-read :
+        (amounts : List ℕ) (left' : List PlacedWord) → numbers end (replicate n small) left ≡ Ok (amounts, left')
+        → sized end s.kind (in_text s) words ≡ ended_with (instance_of s.kind (in_text s) (capacities ++ amounts)) left'
+    sized-read amounts left' read' =
+        sized-behind ∙ ap (λ (r : Result Read BadInstance). ended s.kind (in_text s) (after capacities r)) read'

@@ -2,7 +2,7 @@
 use Rattle.std.proofs.Common.{◌⊎◌, inl, inr, ◌≡◌, ◌<◌, ℕ, ◌+◌, ◌-◌, suc, List, [], ◌∷◌, ◌++◌, replicate, Result, Ok, Err, refl, ap, sym, ◌∙◌, arith}
 use Rattle.std.proofs.lemmas.List.{replicate_more, replicate-append-replicate}
 use Rattle.pls_io.specs.Words.{PlacedWord}
-use Rattle.pls_knapsack.specs.Text.{Limits}
+use Rattle.pls_vectors.specs.Limits.{Limits}
 use Rattle.pls_problem.specs.declared.reader.BadInstance.{BadInstance}
 use Rattle.pls_problem.specs.Reading.{reading_then, number, numbers}
 

@@ -1,9 +1,10 @@
 -- One start after another.
-use Rattle.std.proofs.Common.{◌≡◌, ℕ, ◌+◌, suc, List, [], ◌∷◌, ◌++◌, sym, ap, ◌∙◌, append_assoc, append-nil, add-one}
+use Rattle.std.proofs.Common.{◌≡◌, ℕ, ◌+◌, zero, suc, length, refl, List, [], ◌∷◌, ◌++◌, sym, ap, ◌∙◌, append_assoc, append-nil, add-one}
 use Rattle.rand_core.specs.Stream.{Stream}
 use Rattle.pls_vectors.specs.Solution.{Solution}
 use Rattle.pls_problem.specs.declared.instance.Instance.{Instance}
-use Rattle.pls_problem.specs.Starts.{start_of, starts_from, shuffled_order}
+use Rattle.pls_problem.specs.Shuffle.{seeded}
+use Rattle.pls_problem.specs.Starts.{start_of, starts_from, starts, shuffled_order}
 
 starts_from-suc :
     (i : Instance) (left : ℕ) (words words' : Stream) (s : Solution) → s ≡ start_of i (shuffled_order i words).0
@@ -30,3 +31,12 @@ pub starts_from-done : (i : Instance) (left : ℕ) (words : Stream) (done all : 
 unfolding starts_from
 starts_from-done i left words done all none so_far =
     sym (append-nil done) ∙ (ap (λ (n : ℕ). done ++ starts_from i n words) (sym none) ∙ so_far)
+
+-- as many starts as are asked for
+length-starts_from : (i : Instance) (count : ℕ) (words : Stream) → length (starts_from i count words) ≡ count
+unfolding starts_from
+length-starts_from i zero words = refl
+length-starts_from i (suc count) words = ap suc (length-starts_from i count (shuffled_order i words).1)
+
+pub length-starts : (i : Instance) (seed count : ℕ) → length (starts i seed count) ≡ count
+length-starts i seed count = length-starts_from i count (seeded seed)

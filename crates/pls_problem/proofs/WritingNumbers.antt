@@ -1,7 +1,7 @@
 -- Lines and tables, written one piece after another.
-use Rattle.std.proofs.Common.{◌≡◌, ◌<◌, ◌≤◌, ℕ, ◌+◌, ◌*◌, List, ◌++◌, length, drop, get_or, sym, ap, ◌∙◌, append_assoc, arith}
+use Rattle.std.proofs.Common.{◌≡◌, ◌<◌, ◌≤◌, ℕ, ◌+◌, ◌*◌, ◌/◌, ◌%◌, List, ◌++◌, length, drop, get_or, sym, ap, ◌∙◌, append_assoc, arith}
 use Rattle.std.proofs.lemmas.List.{length-take, length-drop, get_or-take, get_or-drop}
-use Rattle.std.proofs.Math.Nat.{mul-le-mul_right}
+use Rattle.std.proofs.Math.Nat.{mul-le-mul_right, mul_comm, div-add-mod}
 use Rattle.pls_problem.specs.Rows.{row_of}
 use Rattle.pls_problem.specs.Text.{numbers_line, rows_text}
 use Rattle.pls_problem.proofs.NumberRanges.{flat_map-range-more}
@@ -14,6 +14,10 @@ appended before a b c d text text' text'' text''' first second third fourth =
     let two = second ∙ (ap (λ (t : List ℕ). t ++ b) first ∙ append_assoc before a b) in
     let three = third ∙ (ap (λ (t : List ℕ). t ++ c) two ∙ append_assoc before (a ++ b) c) in
     fourth ∙ (ap (λ (t : List ℕ). t ++ d) three ∙ append_assoc before (a ++ b ++ c) d)
+
+-- two pieces
+pub appended_twice : (before a b text text' : List ℕ) → text ≡ before ++ a → text' ≡ text ++ b → text' ≡ before ++ (a ++ b)
+appended_twice before a b text text' first second = second ∙ (ap (λ (t : List ℕ). t ++ b) first ∙ append_assoc before a b)
 
 -- one more row
 pub rows_text-push :
@@ -37,3 +41,13 @@ pub get_or-row_of :
     (row items place : ℕ) (table : List ℕ) → place < items → get_or table (row * items + place) 0 ≡ get_or (row_of items row table) place 0
 get_or-row_of row items place table inside =
     sym (get_or-take items (drop (row * items) table) place 0 inside ∙ get_or-drop (row * items) table place 0)
+
+-- row r of all matrices is row r mod n of matrix r / n
+pub in_matrix :
+    (n m row column : ℕ) (costs : List ℕ) (x : ℕ) → m ≡ n → x ≡ get_or costs ((row / m * n + row % m) * n + column) 0
+    → x ≡ get_or costs (row * m + column) 0
+in_matrix n m row column costs x same is =
+    let whole : row / m * m + row % m ≡ row = ap (λ (q : ℕ). q + row % m) (mul_comm (row / m) m) ∙ div-add-mod row m in
+    is
+    ∙ (ap (λ (k : ℕ). get_or costs ((row / m * k + row % m) * k + column) 0) (sym same)
+    ∙ ap (λ (r : ℕ). get_or costs (r * m + column) 0) whole)

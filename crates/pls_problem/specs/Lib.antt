@@ -1,5 +1,7 @@
+pub mod Kinds
 pub mod Instance
 pub mod Walk
+pub mod Sizes
 pub mod Reading
 pub mod Rows
 pub mod Text

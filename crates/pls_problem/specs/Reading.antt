@@ -1,11 +1,11 @@
-use Rattle.std.specs.Prelude.{ℕ, ◌&&◌, nat_le, List, [], ◌∷◌, length, Option, Some, None, Result, Ok, Err, if◌then◌else◌, codes, slice_index}
+use Rattle.std.specs.Prelude.{ℕ, ◌&&◌, nat_le, List, [], ◌∷◌, length, Option, Some, None, Result, Ok, Err, if◌then◌else◌, codes}
 use Rattle.std.specs.Str.{all_ascii_digits, bytes_eq}
 use Rattle.std.specs.Str.Parse.{digits_value}
 use Rattle.pls_io.specs.Words.{PlacedWord, words}
-use Rattle.pls_knapsack.specs.Instance.{Instance as Items}
-use Rattle.pls_knapsack.specs.Text.{Limits, size_limits, number_limits, instance_of}
+use Rattle.pls_vectors.specs.Limits.{Limits}
+use Rattle.pls_problem.specs.Kinds.{kind_named, size_limits, number_limits, instance_of}
 use Rattle.pls_problem.specs.declared.instance.Instance.{Instance}
-use Rattle.pls_problem.specs.declared.instance.Instance.TheVariants.{Knapsack}
+use Rattle.pls_problem.specs.declared.kind.Kind.{Kind}
 use Rattle.pls_problem.specs.declared.reader.BadInstance.{BadInstance}
 use Rattle.pls_problem.specs.declared.reader.BadInstance.TheVariants.{Head, Short, Word, Range, Extra, Shape}
 
@@ -42,37 +42,35 @@ numbers end (limits ∷ wanted) words =
     (number end limits words)
 
 -- the instance is read, and no word may follow
-abbrev pub ended_with : Items → List PlacedWord → Result Items BadInstance
-ended_with k [] = Ok k
-ended_with k (word ∷ words) = Err (Extra word.place)
+abbrev pub ended_with : Instance → List PlacedWord → Result Instance BadInstance
+ended_with i [] = Ok i
+ended_with i (word ∷ words) = Err (Extra word.place)
 
--- the words after the sizes of a knapsack: the numbers that these call for
-abbrev pub sized : ℕ → ℕ → ℕ → ℕ → List PlacedWord → Result Items BadInstance
-sized end objectives items rules words =
+-- the words after the sizes: the numbers that these call for
+abbrev pub sized : ℕ → Kind → List ℕ → List PlacedWord → Result Instance BadInstance
+sized end kind sizes words =
     reading_then
-    (λ (rest : List ℕ × List PlacedWord). ended_with (instance_of objectives items rules rest.0) rest.1)
-    (numbers end (number_limits objectives items rules) words)
+    (λ (rest : List ℕ × List PlacedWord). ended_with (instance_of kind sizes rest.0) rest.1)
+    (numbers end (number_limits kind sizes) words)
 
--- the words of a knapsack after its kind: three sizes, and the numbers after them
-abbrev pub knapsack_of : ℕ → List PlacedWord → Result Items BadInstance
-knapsack_of end words =
-    reading_then
-    (λ (sizes : List ℕ × List PlacedWord).
-    sized end (slice_index sizes.0 0) (slice_index sizes.0 1) (slice_index sizes.0 2) sizes.1)
-    (numbers end size_limits words)
+-- the words after the kind: its sizes, and the numbers after them
+abbrev pub of_kind : ℕ → Kind → List PlacedWord → Result Instance BadInstance
+of_kind end kind words =
+    reading_then (λ (sizes : List ℕ × List PlacedWord). sized end kind sizes.0 sizes.1) (numbers end (size_limits kind) words)
+
+abbrev pub if_kind : ℕ → ℕ → Option Kind → List PlacedWord → Result Instance BadInstance
+if_kind end place None words = Err (Shape place)
+if_kind end place (Some kind) words = of_kind end kind words
 
 -- the words after the head, of which the first names the kind
-abbrev pub kind_of : ℕ → List PlacedWord → Result Instance BadInstance
-kind_of end [] = Err (Short end)
-kind_of end (word ∷ words) =
-    if bytes_eq word.text (codes "knapsack")
-    then reading_then (λ (k : Items). Ok (Knapsack k)) (knapsack_of end words)
-    else Err (Shape word.place)
+abbrev pub after_head : ℕ → List PlacedWord → Result Instance BadInstance
+after_head end [] = Err (Short end)
+after_head end (word ∷ words) = if_kind end word.place (kind_named word.text) words
 
 abbrev pub headed_by : ℕ → List PlacedWord → Result Instance BadInstance
 headed_by end [] = Err (Short end)
 headed_by end (word ∷ words) =
-    if bytes_eq word.text (codes "pls1") then kind_of end words else Err (Head word.place)
+    if bytes_eq word.text (codes "pls1") then after_head end words else Err (Head word.place)
 
 -- the instance that a text stands for, or its first fault in the order of words
 abbrev pub instance : List ℕ → Result Instance BadInstance

@@ -10,18 +10,23 @@
 #![tactic(auto)]
 
 mod instance;
+mod kind;
+mod laws;
 mod make_spec;
 mod maker;
 mod reader;
 mod rows;
 mod shuffle;
+mod sizes;
 mod start;
 #[cfg(test)]
 mod tests;
 mod writer;
 
 pub use instance::{Instance, Walk};
-pub use make_spec::{Kind, MakeSpec};
+pub use kind::Kind;
+pub use laws::instance_laws;
+pub use make_spec::MakeSpec;
 pub use maker::make;
 pub use reader::{BadInstance, read};
 pub use start::starts;

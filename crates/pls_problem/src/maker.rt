@@ -1,10 +1,12 @@
 ghost use Rattle.std.specs.Prelude.{◌≡◌, ◌*◌, ◌/◌, ◌^◌, ◌<◌, ◌≤◌, All, IfOk, length, sum};
-ghost use Rattle.pls_problem.specs.Made.{IsWithinLimits, drawn, half_sums, made, made_knapsack};
+ghost use Rattle.pls_problem.specs.Made.{IsWithinLimits, drawn, half_sums, made, made_capacities, made_from};
+ghost use Rattle.pls_problem.specs.Sizes.{AreWithinLimits, AreNumbersOf, amount_count};
 
 use crate::instance::Instance;
-use crate::make_spec::{Kind, MakeSpec};
+use crate::kind::Kind;
+use crate::make_spec::MakeSpec;
 use crate::rows::row_of;
-use pls_knapsack::Knapsack;
+use crate::sizes::Sizes;
 use rand_core::{Rng, SeedableRng};
 use rand_xoshiro::Xoshiro256PlusPlus;
 use std::alloc::{AllocError, Global};
@@ -16,24 +18,35 @@ pub fn make(alloc: Global, spec: MakeSpec) -> Result<Instance, AllocError>
     ensures { IfOk result (λ instance. instance ≡ made spec) }
 {
     let mut words = Xoshiro256PlusPlus::seed_from_u64(spec.seed);
-    match spec.kind {
-        Kind::Knapsack => Ok(Instance::Knapsack(make_knapsack(alloc, &mut words, spec)?)),
-    }
+    make_from(alloc, &mut words, &spec.sizes())
 }
 
-/// Makes a knapsack from a stream of words.
-fn make_knapsack<R: Rng>(
-    alloc: Global,
-    words: &mut R,
-    spec: MakeSpec,
-) -> Result<Knapsack, AllocError>
-    requires { IsWithinLimits spec }
-    ensures { IfOk result (λ k. k ≡ made_knapsack spec.objectives spec.size spec.rules (R.stream words.old)) }
+/// Makes an instance from a stream of words.
+fn make_from<R: Rng>(alloc: Global, words: &mut R, sizes: &Sizes) -> Result<Instance, AllocError>
+    requires { AreWithinLimits sizes.now }
+    ensures { IfOk result (λ i. i ≡ made_from sizes.now (R.stream words.old)) }
 {
-    let profits = draw(alloc, words, spec.objectives as u32 * spec.size as u32)?;
-    let weights = draw(alloc, words, spec.rules as u32 * spec.size as u32)?;
-    let capacities = half_sums(alloc, spec.rules, spec.size, &weights)?;
-    Knapsack::new(alloc, spec.size, &profits, &capacities, &weights)
+    let amounts = draw(alloc, words, sizes.amounts())?;
+    let capacities = capacities(alloc, sizes, &amounts)?;
+    sizes.instance(alloc, &capacities, &amounts)
+}
+
+/// The capacities of a knapsack with these profits and weights; none for the other kinds.
+fn capacities(alloc: Global, sizes: &Sizes, amounts: &[u32]) -> Result<Vec<u32>, AllocError>
+    requires limits { AreWithinLimits sizes.now }
+    requires count { length amounts.now ≡ amount_count sizes.now }
+    requires small { All (λ n. n ≤ 100) amounts.now }
+    ensures value { IfOk result (λ c. c.items ≡ made_capacities sizes.now.kind sizes.now.objectives sizes.now.size sizes.now.rules amounts.now) }
+    ensures numbers { IfOk result (λ c. AreNumbersOf sizes.now c.items amounts.now) }
+{
+    match sizes.kind {
+        Kind::Knapsack => {
+            let profits = sizes.objectives as usize * sizes.size as usize;
+            let sums = half_sums(alloc, sizes.rules, sizes.size, &amounts[profits..])?;
+            Ok(sums)
+        }
+        Kind::Assignment | Kind::Tour => Ok(Vec::new(alloc)),
+    }
 }
 
 /// Draws so many numbers, each 1 to 100.

@@ -1,15 +1,19 @@
 //! The reader of an instance's text.
+#![tactic(auto, unfolding(crate::specs::Kinds::size_limits))]
 
 ghost use Rattle.std.specs.Prelude.{◌≡◌, ◌⊎◌, ◌<◌, ◌≤◌, ◌^◌, ◌-◌, [], ◌∷◌, length, replicate, min, true, false, All, IfOk, IfErr, IfSome, IfNone, OnOk, Ok, Err};
 ghost use Rattle.std.specs.Str.{all_ascii_digits};
 ghost use Rattle.std.specs.Str.Parse.{digits_value};
 ghost use Rattle.pls_io.specs.Words.{placed};
-ghost use Rattle.pls_knapsack.specs.Instance.{Instance as Items};
-ghost use Rattle.pls_problem.specs.Reading.{instance, knapsack_of, sized, ended_with, number, numbers};
+ghost use Rattle.pls_problem.specs.declared.instance.Instance.{Instance as AnyInstance};
+ghost use Rattle.pls_problem.specs.Kinds.{size_limits};
+ghost use Rattle.pls_problem.specs.Reading.{instance, of_kind, sized, ended_with, number, numbers};
+ghost use Rattle.pls_problem.specs.Sizes.{AreWithinLimits, in_text};
 
 use crate::instance::Instance;
+use crate::kind::Kind;
+use crate::sizes::Sizes;
 use pls_io::{Tokens, Word};
-use pls_knapsack::Knapsack;
 use std::alloc::{AllocError, Global};
 
 /// Why a text is no instance, with the number of bytes before the word at fault (for Short: the
@@ -55,50 +59,114 @@ pub fn read(alloc: Global, text: &[u8]) -> Result<Instance, BadInstance>
     if head.text != b"pls1".as_slice() {
         return Err(BadInstance::Head(head.place));
     }
-    let kind = next_word(&mut words, end)?;
-    if kind.text != b"knapsack".as_slice() {
-        return Err(BadInstance::Shape(kind.place));
+    let name = next_word(&mut words, end)?;
+    match Kind::named(name.text) {
+        Some(kind) => read_kind(alloc, &mut words, end, kind),
+        None => Err(BadInstance::Shape(name.place)),
     }
-    Ok(Instance::Knapsack(read_knapsack(alloc, &mut words, end)?))
 }
 
-/// Reads the words of a knapsack after its kind.
-fn read_knapsack(alloc: Global, words: &mut Tokens<'_>, end: u32) -> Result<Knapsack, BadInstance>
-    ensures read { IfOk result (λ k. knapsack_of end words.old ≡ Ok k) }
-    ensures fault { IfErr result (λ e. (e ≡ BadInstance.Memory) ⊎ (knapsack_of end words.old ≡ Err e)) }
+/// Reads the words after the kind.
+fn read_kind(
+    alloc: Global,
+    words: &mut Tokens<'_>,
+    end: u32,
+    kind: Kind,
+) -> Result<Instance, BadInstance>
+    ensures read { IfOk result (λ i. of_kind end kind words.old ≡ Ok i) }
+    ensures fault { IfErr result (λ e. (e ≡ BadInstance.Memory) ⊎ (of_kind end kind words.old ≡ Err e)) }
+{
+    let sizes = read_sizes(words, end, kind)?;
+    read_sized(alloc, words, end, &sizes)
+}
+
+/// Reads the sizes that a kind has.
+fn read_sizes(words: &mut Tokens<'_>, end: u32, kind: Kind) -> Result<Sizes, BadInstance>
+    ensures read { IfOk result (λ s. numbers end (size_limits kind) words.old ≡ Ok (in_text s, words.new)) }
+    ensures kind { IfOk result (λ s. s.kind ≡ kind) }
+    ensures limits { IfOk result AreWithinLimits }
+    ensures fault { IfErr result (λ e. numbers end (size_limits kind) words.old ≡ Err e) }
+{
+    match kind {
+        Kind::Knapsack => read_knapsack_sizes(words, end),
+        Kind::Assignment => read_assignment_sizes(words, end),
+        Kind::Tour => read_tour_sizes(words, end),
+    }
+}
+
+/// Reads the numbers of objectives, items and weight rows.
+fn read_knapsack_sizes(words: &mut Tokens<'_>, end: u32) -> Result<Sizes, BadInstance>
+    ensures read { IfOk result (λ s. numbers end (size_limits Kind.Knapsack) words.old ≡ Ok (in_text s, words.new)) }
+    ensures kind { IfOk result (λ s. s.kind ≡ Kind.Knapsack) }
+    ensures limits { IfOk result AreWithinLimits }
+    ensures fault { IfErr result (λ e. numbers end (size_limits Kind.Knapsack) words.old ≡ Err e) }
 {
     let objectives = read_number(words, end, 2, 4)?;
     let items = read_number(words, end, 1, 256)?;
     let rules = read_number(words, end, 1, 8)?;
-    read_sized(alloc, words, end, objectives, items, rules)
+    Ok(Sizes {
+        kind: Kind::Knapsack,
+        objectives: objectives as u8,
+        size: items as u16,
+        rules: rules as u8,
+    })
 }
 
-/// Reads the words after the sizes of a knapsack.
+/// Reads the numbers of objectives and agents.
+fn read_assignment_sizes(words: &mut Tokens<'_>, end: u32) -> Result<Sizes, BadInstance>
+    ensures read { IfOk result (λ s. numbers end (size_limits Kind.Assignment) words.old ≡ Ok (in_text s, words.new)) }
+    ensures kind { IfOk result (λ s. s.kind ≡ Kind.Assignment) }
+    ensures limits { IfOk result AreWithinLimits }
+    ensures fault { IfErr result (λ e. numbers end (size_limits Kind.Assignment) words.old ≡ Err e) }
+{
+    let objectives = read_number(words, end, 2, 4)?;
+    let agents = read_number(words, end, 1, 256)?;
+    Ok(Sizes {
+        kind: Kind::Assignment,
+        objectives: objectives as u8,
+        size: agents as u16,
+        rules: 0,
+    })
+}
+
+/// Reads the numbers of objectives and cities.
+fn read_tour_sizes(words: &mut Tokens<'_>, end: u32) -> Result<Sizes, BadInstance>
+    ensures read { IfOk result (λ s. numbers end (size_limits Kind.Tour) words.old ≡ Ok (in_text s, words.new)) }
+    ensures kind { IfOk result (λ s. s.kind ≡ Kind.Tour) }
+    ensures limits { IfOk result AreWithinLimits }
+    ensures fault { IfErr result (λ e. numbers end (size_limits Kind.Tour) words.old ≡ Err e) }
+{
+    let objectives = read_number(words, end, 2, 4)?;
+    let cities = read_number(words, end, 3, 256)?;
+    Ok(Sizes {
+        kind: Kind::Tour,
+        objectives: objectives as u8,
+        size: cities as u16,
+        rules: 0,
+    })
+}
+
+/// Reads the words after the sizes.
 fn read_sized(
     alloc: Global,
     words: &mut Tokens<'_>,
     end: u32,
-    objectives: u32,
-    items: u32,
-    rules: u32,
-) -> Result<Knapsack, BadInstance>
-    requires objectives { (2 ≤ objectives) × (objectives ≤ 4) }
-    requires items { (1 ≤ items) × (items ≤ 256) }
-    requires rules { (1 ≤ rules) × (rules ≤ 8) }
-    ensures read { IfOk result (λ k. sized end objectives items rules words.old ≡ Ok k) }
-    ensures fault { IfErr result (λ e. (e ≡ BadInstance.Memory) ⊎ (sized end objectives items rules words.old ≡ Err e)) }
+    sizes: &Sizes,
+) -> Result<Instance, BadInstance>
+    requires { AreWithinLimits sizes.now }
+    ensures read { IfOk result (λ i. sized end sizes.now.kind (in_text sizes.now) words.old ≡ Ok i) }
+    ensures fault { IfErr result (λ e. (e ≡ BadInstance.Memory) ⊎ (sized end sizes.now.kind (in_text sizes.now) words.old ≡ Err e)) }
 {
-    let capacities = read_numbers(alloc, words, end, rules, 1_000_000_000)?;
-    let profits = read_numbers(alloc, words, end, objectives * items, 1_000_000)?;
-    let weights = read_numbers(alloc, words, end, rules * items, 1_000_000)?;
+    let capacities = read_numbers(alloc, words, end, sizes.capacities(), 1_000_000_000)?;
+    let amounts = read_numbers(alloc, words, end, sizes.amounts(), 1_000_000)?;
     no_more(words)?;
-    Ok(Knapsack::new(alloc, items as u16, &profits, &capacities, &weights)?)
+    Ok(sizes.instance(alloc, &capacities, &amounts)?)
 }
 
 /// Extra where a word is left.
 fn no_more(words: &mut Tokens<'_>) -> Result<(), BadInstance>
     ensures read { OnOk result (words.old ≡ []) }
-    ensures fault { (k : Items) → IfErr result (λ e. ended_with k words.old ≡ Err e) }
+    ensures fault { (i : AnyInstance) → IfErr result (λ e. ended_with i words.old ≡ Err e) }
 {
     match words.next_word() {
         None => Ok(()),
@@ -174,9 +242,12 @@ mod tests {
     use super::*;
     use BadInstance::{Extra, Head, Range, Shape, Short, Word};
 
-    // A text, and how many items its instance has, or its first fault.
-    const TEXTS: [(&[u8], Result<u16, BadInstance>); 20] = [
-        (b"pls1 knapsack 2 2 1\n10\n3 1\n1 3\n2 3\n", Ok(2)),
+    // A text, and the kind and the size of its instance, or its first fault.
+    const TEXTS: [(&[u8], Result<(Kind, u16), BadInstance>); 36] = [
+        (
+            b"pls1 knapsack 2 2 1\n10\n3 1\n1 3\n2 3\n",
+            Ok((Kind::Knapsack, 2)),
+        ),
         (b"pls1 knapsack 2 2 1\n10\n3 1\n1 3\n2", Err(Short(32))),
         (b"", Err(Short(0))),
         (b"pls1", Err(Short(4))),
@@ -184,10 +255,19 @@ mod tests {
             b"pls1 knapsack 2 2 1\n10\n3 1\n1 3\n2 3\n7\n",
             Err(Extra(35)),
         ),
-        (b"pls1 knapsack 2 2 1\n10\n3 1\n1 3\n2 3\n\t# done\n", Ok(2)),
+        (
+            b"pls1 knapsack 2 2 1\n10\n3 1\n1 3\n2 3\n\t# done\n",
+            Ok((Kind::Knapsack, 2)),
+        ),
         (b"pls1 knapsack 2 1 1\n5\n1000001\n1\n1\n", Err(Range(22))),
-        (b"pls1 knapsack 2 1 1\n5\n1000000\n1\n1\n", Ok(1)),
-        (b"pls1 knapsack 2 1 1\n5 00000000000000001 1 1", Ok(1)),
+        (
+            b"pls1 knapsack 2 1 1\n5\n1000000\n1\n1\n",
+            Ok((Kind::Knapsack, 1)),
+        ),
+        (
+            b"pls1 knapsack 2 1 1\n5 00000000000000001 1 1",
+            Ok((Kind::Knapsack, 1)),
+        ),
         (
             b"pls1 knapsack 2 1 1\n9999999999999999999999999999999999999999",
             Err(Range(20)),
@@ -200,15 +280,38 @@ mod tests {
         (b"pls1 knapsack 5 1 1 and any rest", Err(Range(14))),
         (b"pls1 knapsack 2 257 1", Err(Range(16))),
         (b"pls1 knapsack 2 1 9", Err(Range(18))),
-        (b"pls1 knapsack 2 1 1 1000000000 1 1 1", Ok(1)),
+        (
+            b"pls1 knapsack 2 1 1 1000000000 1 1 1",
+            Ok((Kind::Knapsack, 1)),
+        ),
         (b"pls1 knapsack 2 1 1 1000000001 1 1 1", Err(Range(20))),
+        (
+            b"pls1 assignment 2 2\n1 5 5 1\n5 1 1 5\n",
+            Ok((Kind::Assignment, 2)),
+        ),
+        (b"pls1 assignment 2 1 0 1000000", Ok((Kind::Assignment, 1))),
+        (b"pls1 assignment 2 1 0 1000001", Err(Range(22))),
+        (b"pls1 assignment 2 2\n1 5 5 1\n5 1 1", Err(Short(33))),
+        (b"pls1 assignment 2 2\n1 5 5 1\n5 1 1 5\n5", Err(Extra(36))),
+        (b"pls1 assignment 2 0", Err(Range(18))),
+        (b"pls1 assignment 2 257", Err(Range(18))),
+        (b"pls1 assignment", Err(Short(15))),
+        (b"pls1 tour 2 3\n1 2 3\n4 5 6\n", Ok((Kind::Tour, 3))),
+        (b"pls1 tour 2 3\n1 2 3\n4 5", Err(Short(23))),
+        (b"pls1 tour 2 3 1 2 3 4 5 6 7", Err(Extra(26))),
+        (b"pls1 tour 2 2 1 1", Err(Range(12))),
+        (b"pls1 tour 2 257", Err(Range(12))),
+        (b"pls1 tour 1 3", Err(Range(10))),
+        (b"pls1 tour 2 3 1 2 3 4 5 -6", Err(Word(24))),
+        (b"pls1 tours 2 3", Err(Shape(5))),
     ];
 
     #[test]
     fn reads_an_instance_or_its_first_fault(rt: HostRuntime) {
         for (text, want) in TEXTS {
+            assert!(rt; text.len() < 1000);
             let got = match read(rt.alloc(), text) {
-                Ok(Instance::Knapsack(k)) => Ok(k.size()),
+                Ok(instance) => Ok((instance.kind(), instance.size())),
                 Err(fault) => Err(fault),
             };
             assert_eq!(rt; got, want);

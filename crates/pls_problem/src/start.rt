@@ -11,7 +11,8 @@ use rand_xoshiro::Xoshiro256PlusPlus;
 use std::alloc::{AllocError, Global};
 
 /// The starts of a search. One stream of words, of Xoshiro256++ seeded with the seed, serves all of
-/// them in order: each start is what a greedy fill takes along a shuffle of the items 0, 1, .., n-1.
+/// them in order, and each begins with a shuffle of 0, 1, .., n-1: of a knapsack it is what a greedy fill
+/// takes along that, of the other kinds the permutation itself. In a tour city 0 stays first.
 pub fn starts(
     alloc: Global,
     instance: &Instance,
@@ -48,13 +49,14 @@ fn starts_from<R: Rng>(
 /// The start that a shuffle of 0, 1, .., n-1 stands for.
 fn draw_start<R: Rng>(instance: &Instance, words: &mut R, order: &mut [u16]) -> Sol
     requires items { length order.old ≡ size instance.now }
+    requires some { 1 ≤ length order.old }
     requires few { length order.old ≤ 256 }
     ensures value { result ≡ start_of instance.now (shuffled_order instance.now (R.stream words.old)).0 }
     ensures rest { R.stream words.new ≡ (shuffled_order instance.now (R.stream words.old)).1 }
     ensures feasible { feasible instance.now result ≡ true }
 {
     set_in_order(order);
-    shuffle(words, order);
+    shuffle(words, order, instance.least_shuffled());
     instance.start_along(order)
 }
 

@@ -8,12 +8,27 @@ use std::test::Fail;
 
 const TWO_ITEMS: &str = "pls1 knapsack 2 2 1\n10\n3 1\n1 3\n2 3\n";
 
+const FOUR_CITIES: &str = "pls1 tour 2 4\n1 9 1 1 9 1\n9 1 5 5 1 9\n";
+
 const THREE_ITEMS: &str = "pls1 knapsack 2 3 1\n5\n3 1 2\n1 3 2\n2 3 4\n";
 
 /// The instance of a text.
 fn instance_of(rt: &impl Abort, alloc: Global, text: &str) -> Instance {
     assert!(rt; text.len() < 1000);
     read(alloc, text.as_bytes()).expect(rt, "an instance")
+}
+
+/// Whether a permutation has just these entries.
+fn has_entries(sol: &Sol, entries: &[u16]) -> bool {
+    if sol.len() as usize != entries.len() {
+        return false;
+    }
+    for place in 0..sol.len() {
+        if sol.entry(place) as u16 != entries[place as usize] {
+            return false;
+        }
+    }
+    true
 }
 
 #[test]
@@ -24,6 +39,11 @@ fn writes_the_text_of_an_instance(rt: HostRuntime) -> Result<(), Fail> {
             "pls1\tknapsack 2 1 2 # sizes\r\n0005 6 7 8#9\n9 10",
             "pls1 knapsack 2 1 2\n5 6\n7\n8\n9\n10\n",
         ),
+        (
+            "pls1 assignment 2 2 1 05 5 1 5 1 1 5",
+            "pls1 assignment 2 2\n1 5\n5 1\n5 1\n1 5\n",
+        ),
+        (FOUR_CITIES, FOUR_CITIES),
     ];
     for (text, written) in cases {
         let instance = instance_of(&rt, rt.alloc(), text);
@@ -35,10 +55,18 @@ fn writes_the_text_of_an_instance(rt: HostRuntime) -> Result<(), Fail> {
 
 #[test]
 fn makes_instances(rt: HostRuntime) -> Result<(), Fail> {
-    // objectives, size, rules and seed; the text was computed by a program of its own in another language
+    // kind, objectives, size, rules and seed; the text was computed by a program of its own in another language
     let cases = [
-        (2, 1, 1, 9, "pls1 knapsack 2 1 1\n8\n96\n29\n16\n"),
         (
+            Kind::Knapsack,
+            2,
+            1,
+            1,
+            9,
+            "pls1 knapsack 2 1 1\n8\n96\n29\n16\n",
+        ),
+        (
+            Kind::Knapsack,
             2,
             3,
             2,
@@ -46,19 +74,44 @@ fn makes_instances(rt: HostRuntime) -> Result<(), Fail> {
             "pls1 knapsack 2 3 2\n74 101\n62 17 79\n57 43 66\n9 73 66\n70 42 91\n",
         ),
         (
+            Kind::Knapsack,
             3,
             2,
             2,
             u64::MAX,
             "pls1 knapsack 3 2 2\n40 45\n87 13\n36 88\n42 81\n25 56\n58 32\n",
         ),
+        (
+            Kind::Assignment,
+            2,
+            2,
+            1,
+            7,
+            "pls1 assignment 2 2\n62 17\n79 57\n43 66\n9 73\n",
+        ),
+        (
+            Kind::Tour,
+            3,
+            3,
+            8,
+            u64::MAX,
+            "pls1 tour 3 3\n87 13 36\n88 42 81\n25 56 58\n",
+        ),
+        (
+            Kind::Tour,
+            2,
+            3,
+            1,
+            5,
+            "pls1 tour 2 3\n59 51 44\n47 100 95\n",
+        ),
     ];
-    for (objectives, size, rules, seed, text) in cases {
+    for (kind, objectives, size, rules, seed, text) in cases {
         assert!(rt; 2 <= objectives && objectives <= 4);
-        assert!(rt; 1 <= size && size <= 256);
+        assert!(rt; kind.least_size() <= size && size <= 256);
         assert!(rt; 1 <= rules && rules <= 8);
         let spec = MakeSpec {
-            kind: Kind::Knapsack,
+            kind,
             objectives,
             size,
             rules,
@@ -83,6 +136,67 @@ fn begins_from_seeds(rt: HostRuntime) -> Result<(), Fail> {
         }
     }
     Ok(())
+}
+
+#[test]
+fn begins_from_permutations(rt: HostRuntime) -> Result<(), Fail> {
+    // a text, a seed, and the entries of its starts, computed by a program of its own in another language
+    let cases: [(&str, u64, [&[u16]; 2]); 4] = [
+        ("pls1 assignment 2 2 1 5 5 1 5 1 1 5", 0, [&[0, 1], &[0, 1]]),
+        ("pls1 assignment 2 2 1 5 5 1 5 1 1 5", 7, [&[0, 1], &[1, 0]]),
+        (FOUR_CITIES, 0, [&[0, 1, 2, 3], &[0, 3, 1, 2]]),
+        (FOUR_CITIES, 7, [&[0, 2, 1, 3], &[0, 2, 1, 3]]),
+    ];
+    for (text, seed, entries) in cases {
+        let instance = instance_of(&rt, rt.alloc(), text);
+        let sols = starts(rt.alloc(), &instance, seed, 2)?;
+        assert_eq!(rt; sols.len(), 2);
+        for (sol, entries) in sols.iter().zip(&entries) {
+            assert!(rt; has_entries(sol, entries), "seed {seed} of {text}");
+        }
+    }
+    Ok(())
+}
+
+#[test]
+fn shows_what_is_printed(rt: HostRuntime) {
+    let items = instance_of(&rt, rt.alloc(), TWO_ITEMS);
+    let mut one = Sol::bits(2);
+    one.set_bit(1, true);
+    assert_eq!(rt; (items.kind(), items.original(3)), (Kind::Knapsack, 3));
+    assert_eq!(rt;
+        [items.shown_at(&one, 0), items.shown_at(&one, 1)],
+        [None, Some(1)]
+    );
+    let cities = instance_of(&rt, rt.alloc(), FOUR_CITIES);
+    let around = Sol::of_entries(&[0, 2, 1, 3]);
+    assert_eq!(rt; around.len(), 4);
+    assert_eq!(rt; (cities.kind(), cities.original(-20)), (Kind::Tour, 20));
+    assert_eq!(rt; cities.shown_at(&around, 1), Some(2));
+    assert!(rt; cities.is_feasible(&around));
+    assert!(rt; !cities.is_feasible(&Sol::of_entries(&[1, 0, 2, 3])));
+}
+
+#[test]
+fn walks_over_permutations(rt: HostRuntime) {
+    let cities = instance_of(&rt, rt.alloc(), FOUR_CITIES);
+    let start = Sol::order(4);
+    assert!(rt; cities.is_feasible(&start));
+    let mut walk = cities.walk(&start);
+    let wanted: [([i64; 2], [u16; 4]); 3] = [
+        ([-20, -12], [0, 2, 1, 3]),
+        ([-4, -28], [0, 3, 2, 1]),
+        ([-20, -20], [0, 1, 3, 2]),
+    ];
+    for (value, entries) in wanted {
+        let found = cities.next(&mut walk);
+        assert!(rt; found.is_some());
+        if let Some((found, sol)) = found {
+            assert_eq!(rt; Some(found), Vector::new(&value));
+            assert!(rt; has_entries(&sol, &entries));
+        }
+    }
+    assert!(rt; cities.next(&mut walk).is_none());
 }
 
 #[test]

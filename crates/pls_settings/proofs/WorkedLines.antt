@@ -1,7 +1,7 @@
 -- Command lines, computed.
 use Rattle.std.proofs.Common.{◌≡◌, ℕ, [], ◌∷◌, ◌++◌, map, Some, None, is_none, true, codes, refl}
 use Rattle.std.specs.List.{list_all}
-use Rattle.pls_problem.specs.declared.make_spec.Kind.TheVariants.{Knapsack}
+use Rattle.pls_problem.specs.declared.kind.Kind.TheVariants.{Knapsack, Assignment, Tour}
 use Rattle.pls_settings.specs.Line.{Text, line, number, with_read, settings_of, make_of}
 use Rattle.pls_settings.specs.declared.choices.Mode.{Mode}
 use Rattle.pls_settings.specs.declared.choices.Mode.TheVariants.{Search, Make, Demo}
@@ -43,6 +43,18 @@ no_lines : list_all (λ words. is_none (line words)) (
     ∷ (codes "search" ∷ codes "--help" ∷ []) ∷ (codes "-h" ∷ []) ∷ []) ≡ true
 unfolding line with_read settings_of make_of
 no_lines = refl
+
+-- a tour has three cities or more, where it is made
+small_tours :
+    map line (
+    (codes "make" ∷ codes "--kind" ∷ codes "tour" ∷ codes "--size" ∷ codes "2" ∷ [])
+    ∷ (codes "demo" ∷ codes "--kind=tour" ∷ codes "--size=2" ∷ []) ∷ (codes "search" ∷ codes "--kind=tour" ∷ codes "--size=2" ∷ [])
+    ∷ (codes "make" ∷ codes "--kind=tour" ∷ codes "--size=3" ∷ []) ∷ (codes "make" ∷ codes "--kind=assignment" ∷ codes "--size=1" ∷ []) ∷ [])
+    ≡ None ∷ None ∷ Some (record (plain Search 1) { make = record (plain Search 1).make { kind = Tour; size = 2 } })
+    ∷ Some (record (plain Make 1) { make = record (plain Make 1).make { kind = Tour; size = 3 } })
+    ∷ Some (record (plain Make 1) { make = record (plain Make 1).make { kind = Assignment; size = 1 } }) ∷ []
+unfolding line with_read settings_of make_of plain
+small_tours = refl
 
 -- ---- for every value
 

@@ -1,6 +1,7 @@
 -- The ranges of settings.
 use Rattle.std.specs.Prelude.{◌≡◌, ◌≤◌}
 use Rattle.pls_problem.specs.Made.{IsWithinLimits}
+use Rattle.pls_settings.specs.declared.choices.Mode.TheVariants.{Search}
 use Rattle.pls_settings.specs.declared.choices.Settings.{Settings}
 
 pub record HasLimits (s : Settings) : Type 0 where
@@ -11,5 +12,5 @@ pub record HasLimits (s : Settings) : Type 0 where
   pub few_starts : s.starts ≤ 64
   pub some_rows : 64 ≤ s.rows
   pub few_rows : s.rows ≤ 262144
-  pub make : IsWithinLimits s.make
+  pub make : (s.mode ≡ Search → ⊥) → IsWithinLimits s.make
   pub same_seed : s.make.seed ≡ s.seed

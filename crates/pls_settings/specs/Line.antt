@@ -4,8 +4,8 @@ use Rattle.std.specs.List.{list_any, before_first, after_first}
 use Rattle.std.specs.Option.{option_map_or}
 use Rattle.std.specs.Str.{all_ascii_digits, bytes_eq}
 use Rattle.std.specs.Str.Parse.{digits_value}
-use Rattle.pls_problem.specs.declared.make_spec.Kind.{Kind}
-use Rattle.pls_problem.specs.declared.make_spec.Kind.TheVariants.{Knapsack}
+use Rattle.pls_problem.specs.Kinds.{kind_named, least_size}
+use Rattle.pls_problem.specs.declared.kind.Kind.TheVariants.{Knapsack}
 use Rattle.pls_problem.specs.declared.make_spec.MakeSpec.{MakeSpec}
 use Rattle.pls_settings.specs.declared.choices.Mode.{Mode}
 use Rattle.pls_settings.specs.declared.choices.Mode.TheVariants.{Search, Make, Demo}
@@ -89,9 +89,6 @@ mode_of text =
     else if bytes_eq text (codes "demo") then Some Demo
     else None
 
-abbrev pub kind_of : Text → Option Kind
-kind_of text = if bytes_eq text (codes "knapsack") then Some Knapsack else None
-
 -- one to 20 decimal digits, and no sign
 abbrev pub is_numeral : Text → Bool
 is_numeral text = nat_le 1 (length text) && nat_le (length text) 20 && all_ascii_digits text
@@ -109,11 +106,17 @@ or_default default read text = option_map_or read text (Some default)
 -- what an instance is made from, by the texts that are given
 unfoldable pub make_of : ℕ → (Text → Option Text) → Option MakeSpec
 make_of seed text =
-    with_read (or_default Knapsack kind_of (text (codes "kind"))) (λ kind.
+    with_read (or_default Knapsack kind_named (text (codes "kind"))) (λ kind.
     with_read (or_default 100 (number 1 256) (text (codes "size"))) (λ size.
     with_read (or_default 2 (number 2 4) (text (codes "objectives"))) (λ objectives.
     with_read (or_default 1 (number 1 8) (text (codes "rules"))) (λ rules.
     Some (record { kind = kind; objectives = objectives; size = size; rules = rules; seed = seed })))))
+
+-- a search makes nothing; what else is made has the least size of its kind
+abbrev pub is_makeable : Mode → MakeSpec → Bool
+is_makeable Search make = true
+is_makeable Make make = nat_le (least_size make.kind) make.size
+is_makeable Demo make = nat_le (least_size make.kind) make.size
 
 -- the settings, by the texts that are given
 unfoldable pub settings_of : (Text → Option Text) → Option Settings
@@ -125,7 +128,9 @@ settings_of text =
     with_read (or_default 1 (number 1 64) (text (codes "starts"))) (λ starts.
     with_read (or_default 65536 (number 64 262144) (text (codes "rows"))) (λ rows.
     with_read (make_of seed text) (λ make.
-    Some (record { mode = mode; seed = seed; moves = moves; workers = workers; starts = starts; rows = rows; make = make }))))))))
+    if is_makeable mode make
+    then Some (record { mode = mode; seed = seed; moves = moves; workers = workers; starts = starts; rows = rows; make = make })
+    else None)))))))
 
 -- the settings of a list of words, or none where it is no command line
 unfoldable pub line : List Text → Option Settings

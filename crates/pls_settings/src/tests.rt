@@ -98,6 +98,41 @@ fn answers_lines(rt: HostRuntime) -> Result<(), Fail> {
             ),
         ),
         (
+            "make --kind tour --size 3",
+            Settings {
+                mode: Mode::Make,
+                make: MakeSpec {
+                    kind: Kind::Tour,
+                    size: 3,
+                    ..PLAIN.make
+                },
+                ..PLAIN
+            },
+        ),
+        (
+            "search --size 2 --kind tour",
+            Settings {
+                make: MakeSpec {
+                    kind: Kind::Tour,
+                    size: 2,
+                    ..PLAIN.make
+                },
+                ..PLAIN
+            },
+        ),
+        (
+            "demo --kind=assignment --size 1",
+            Settings {
+                mode: Mode::Demo,
+                make: MakeSpec {
+                    kind: Kind::Assignment,
+                    size: 1,
+                    ..PLAIN.make
+                },
+                ..PLAIN
+            },
+        ),
+        (
             "--size=1 demo --workers 16",
             Settings {
                 mode: Mode::Demo,
@@ -149,8 +184,9 @@ fn refuses_other_words(rt: HostRuntime) -> Result<(), Fail> {
         "search --rules 0",
         "search --rules 9",
         "search --kind lot",
-        "make --kind assignment",
-        "demo --kind tour --size 2",
+        "make --kind tours",
+        "make --kind tour --size 2",
+        "demo --size=1 --kind=tour",
         "search -- --seed=7",
         "--seed=7",
         "--see=7 search",

@@ -1,7 +1,8 @@
 //! What the texts of a command line stand for.
 
 ghost use Rattle.std.specs.Prelude.{◌≡◌, ◌≤◌, IfSome, option_map};
-ghost use Rattle.pls_settings.specs.Line.{kind_of, make_of, mode_of, number, or_default, settings_of};
+ghost use Rattle.pls_problem.specs.Kinds.{kind_named};
+ghost use Rattle.pls_settings.specs.Line.{is_makeable, make_of, mode_of, number, or_default, settings_of};
 ghost use Rattle.pls_settings.specs.Parse.{text_in};
 
 use crate::choices::{Mode, Settings};
@@ -20,6 +21,9 @@ pub(crate) fn settings_of(matches: &ArgMatches<'_>) -> Option<Settings>
     let starts = number_or(text_in(matches, "starts"), 1, 1, 64)? as u32;
     let rows = number_or(text_in(matches, "rows"), 65_536, 64, 262_144)? as u32;
     let make = make_of(matches, seed)?;
+    if !is_makeable(mode, &make) {
+        return None;
+    }
     Some(Settings {
         mode,
         seed,
@@ -49,6 +53,16 @@ fn make_of(matches: &ArgMatches<'_>, seed: u64) -> Option<MakeSpec>
     })
 }
 
+/// Whether the size is at least the least one of the kind, where the mode makes an instance.
+fn is_makeable(mode: Mode, make: &MakeSpec) -> bool
+    ensures { result ≡ is_makeable mode make.now }
+{
+    match mode {
+        Mode::Search => true,
+        Mode::Make | Mode::Demo => make.kind.least_size() <= make.size,
+    }
+}
+
 /// The text that is given for a name.
 fn text_in<'a>(matches: &ArgMatches<'a>, name: &str) -> Option<&'a str>
     ensures { option_map (λ text. text.now) result ≡ text_in matches.now name.now }
@@ -70,14 +84,16 @@ fn mode_of(text: &str) -> Option<Mode>
 
 /// The kind that a text names, or the default.
 fn kind_or(text: Option<&str>, default: Kind) -> Option<Kind>
-    ensures { result ≡ or_default default kind_of (option_map (λ t. t.now) text.entry) }
+    ensures { result ≡ or_default default kind_named (option_map (λ t. t.now) text.entry) }
 {
     match text {
-        Some("knapsack") => Some(Kind::Knapsack),
-        Some(_) => None,
+        Some(text) => Kind::named(text.as_bytes()),
         None => Some(default),
     }
 }
+
+/// How many digits a number may have.
+const MOST_DIGITS: usize = 20;
 
 /// The number from `least` to `most` that a text writes, or the default.
 fn number_or(text: Option<&str>, default: u64, least: u64, most: u64) -> Option<u64>
@@ -96,7 +112,7 @@ fn number(text: &str, least: u64, most: u64) -> Option<u64>
     ensures value { result ≡ number least most text.now }
     ensures range { IfSome result (λ n. (least ≤ n) × (n ≤ most)) }
 {
-    if text.len() > 20 || text.starts_with('+') {
+    if text.len() > MOST_DIGITS || text.starts_with('+') {
         return None;
     }
     match text.parse::<u64>() {

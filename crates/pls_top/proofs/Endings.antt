@@ -13,8 +13,7 @@ use Rattle.pls_top.specs.declared.status.Status.{Status}
 use Rattle.pls_top.specs.declared.status.Status.TheVariants.{Closed, Stopped, Usage, BadInstance, ReadFault, WriteFault, Full, Memory, TooLong}
 use Rattle.pls_top.specs.declared.report.End.{End}
 use Rattle.pls_top.specs.declared.report.End.TheVariants as end
-use Rattle.pls_top.specs.Report.{end_of}
-use Rattle.pls_top.specs.Sequential.{run_of}
+use Rattle.pls_top.specs.Sequential.{run_of, end_of}
 use Rattle.pls_top.specs.Answer.{code_of, UsageExactly, AsksSource, TooLongExactly, BadInstanceExactly, AnswersDueStatus, Tells, IsAnsweredIn, IsAnswered, IsUndisturbed, IsReadWhole, ReadsAll, Written, WrittenInPart, WritesFaultLine, ReadFailed, ReadLineInPart, WritesDueText}
 use Rattle.pls_top.specs.Due.{Due, status_at, searched, demonstrated, written_out, due_for, due_in, due, is_search, reads, most_bytes, usage_line, read_line, too_long_line, instance_line}
 use Rattle.pls_top.specs.Ending.{Streams, Ends, IsEnding, EndsAsDue}
@@ -53,7 +52,7 @@ module _ (C : Option Settings → List ℕ → Due → Type 0)
   unfolding searched
   at_reading s bytes is short (Ok i) read =
       at_end s bytes (searched s i).text (λ search. (short, rw read refl)) (λ make. let h : Search ≡ Make = sym is ∙ make in cc)
-      (end_of (run_of s i))
+      (end_of i (run_of s i))
   at_reading s bytes is short (Err f) read = bad s bytes f (ap is_search is) short read
 
   in_mode : (s : Settings) (bytes : List ℕ) (m : Mode) → s.mode ≡ m → C (Some s) bytes (due_in m s bytes)
@@ -65,7 +64,7 @@ module _ (C : Option Settings → List ℕ → Due → Type 0)
   in_mode s bytes Make is = closed s bytes (written_out s).text (no_search s Make is refl _)
   in_mode s bytes Demo is =
       at_end s bytes (demonstrated s).text (no_search s Demo is refl _) (λ make. let h : Demo ≡ Make = sym is ∙ make in cc)
-      (end_of (run_of s (made s.make)))
+      (end_of (made s.make) (run_of s (made s.make)))
 
   at_due : (s : Option Settings) (bytes : List ℕ) → C s bytes (due s bytes)
   at_due None bytes = usage bytes

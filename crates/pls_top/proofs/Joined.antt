@@ -1,72 +1,78 @@
--- The chosen items, written one after another.
-use Rattle.std.proofs.Common.{◌≡◌, ℕ, ◌+◌, Bool, List, [], ◌∷◌, ◌++◌, cond, true, false, refl, sym, ap, ◌∙◌, append-nil}
+-- The numbers of a solution and the parts of a value, written one after another.
+use Rattle.std.proofs.Common.{◌≡◌, ◌<◌, ℕ, ℤ, pos, ◌+◌, Bool, List, [], ◌∷◌, ◌++◌, map, length, take, get_or, Option, Some, None, true, false, refl, sym, ap, subst, ◌∙◌, append-nil}
 use Rattle.std.proofs.lemmas.Bool.{false≢true}
-use Rattle.std.proofs.lemmas.List.Elements.{filter-append}
-use Rattle.std.specs.Fmt.{decimal}
+use Rattle.std.proofs.lemmas.List.{map-append, take_more}
+use Rattle.std.proofs.lemmas.Option.{get_or_from_slice_get}
+use Rattle.std.specs.Fmt.{decimal, signed_decimal}
+use Rattle.std.specs.List.{flat_map, range_with_len, slice_get}
+use Rattle.std.specs.Prelude.{option_to_list}
 use Rattle.pls_io.proofs.Joins.{is_some_list, joined, Joins, Joins-push}
-use Rattle.pls_problem.proofs.NumberRanges.{range_with_len-more}
 use Rattle.pls_io.specs.Lines.{gap}
-use Rattle.pls_vectors.specs.Solution.{Solution, chosen}
-use Rattle.pls_top.specs.Report.{items_text, choice_text}
-use Rattle.std.specs.List.{filter, range_with_len}
+use Rattle.pls_vectors.specs.Solution.{Solution}
+use Rattle.pls_problem.specs.declared.instance.Instance.{Instance}
+use Rattle.pls_problem.specs.Instance.{shown_at}
+use Rattle.pls_problem.proofs.NumberRanges.{flat_map-range-more}
+use Rattle.pls_top.specs.Report.{numbers_or_dash, solution_text}
 
--- the items that pass a test, with one more item
-pub filter-range-more :
-    (p : ℕ → Bool) (n : ℕ) (b : Bool) → b ≡ p n
-    → filter p (range_with_len 0 (n + 1)) ≡ filter p (range_with_len 0 n) ++ cond b (n ∷ []) []
-filter-range-more p n b same =
-    ap (filter p) (range_with_len-more n)
-    ∙ (filter-append p (range_with_len 0 n) (n ∷ [])
-    ∙ ap (λ (c : Bool). filter p (range_with_len 0 n) ++ cond c (n ∷ []) []) (sym same))
+-- one more part of a value
+pub part_written :
+    (f : ℤ → ℤ) (value : List ℤ) (k : ℕ) (before text text' : List ℕ) (any : Bool) (part : ℤ) → slice_get value k ≡ Some part → k < length value
+    → Joins signed_decimal before (map f (take k value)) text any → text' ≡ text ++ (gap any ++ signed_decimal (f part))
+    → Joins signed_decimal before (map f (take (k + 1) value)) text' true
+part_written f value k before text text' any part at inside joins more =
+    let is : get_or value k (pos 0) ≡ part = get_or_from_slice_get value k part (pos 0) at in
+    let next : map f (take (k + 1) value) ≡ map f (take k value) ++ f part ∷ [] =
+    ap (map f) (take_more value k (pos 0) inside)
+    ∙ (map-append f (take k value) (get_or value k (pos 0) ∷ []) ∙ ap (λ (x : ℤ). map f (take k value) ++ f x ∷ []) is) in
+    subst (λ (xs : List ℤ). Joins signed_decimal before xs text' true) (sym next)
+    (Joins-push signed_decimal before (map f (take k value)) text any joins (f part) text' more)
 
-items_joined : (items : List ℕ) → is_some_list items ≡ true → joined decimal items ≡ items_text items
-items_joined [] some = absurd (false≢true some)
-items_joined (i ∷ items) some = refl
+numbers_joined : (numbers : List ℕ) → is_some_list numbers ≡ true → joined decimal numbers ≡ numbers_or_dash numbers
+numbers_joined [] some = absurd (false≢true some)
+numbers_joined (n ∷ numbers) some = refl
 
-empty_list : (items : List ℕ) → is_some_list items ≡ false → items ≡ []
+empty_list : (numbers : List ℕ) → is_some_list numbers ≡ false → numbers ≡ []
 empty_list [] none = refl
-empty_list (i ∷ items) none = absurd (false≢true (sym none))
+empty_list (n ∷ numbers) none = absurd (false≢true (sym none))
 
--- the items of a choice, written to the last
-pub choice_written :
-    (s : Solution) (before text : List ℕ) (any : Bool) (n : ℕ)
-    → Joins decimal before (filter (λ i. chosen s i) (range_with_len 0 n)) text any → n ≡ s.len → any ≡ true
-    → text ≡ before ++ choice_text s
-choice_written s before text any n joins all some =
-    joins.written
-    ∙ ap (λ (t : List ℕ). before ++ t)
-    (items_joined (filter (λ i. chosen s i) (range_with_len 0 n)) (sym joins.some ∙ some)
-    ∙ ap (λ (m : ℕ). items_text (filter (λ i. chosen s i) (range_with_len 0 m))) all)
+module _ (i : Instance) (s : Solution) where
+  -- the numbers that the first n places show
+  abbrev pub shown_before : ℕ → List ℕ
+  shown_before n = flat_map (λ place. option_to_list (shown_at i s place)) (range_with_len 0 n)
 
--- no item was written, and then the dash
-pub no_choice_written :
-    (s : Solution) (before text text' : List ℕ) (any : Bool) (n : ℕ)
-    → Joins decimal before (filter (λ i. chosen s i) (range_with_len 0 n)) text any → n ≡ s.len → any ≡ false
-    → text' ≡ text ++ 45 ∷ [] → text' ≡ before ++ choice_text s
-no_choice_written s before text text' any n joins all none dash =
-    dash
-    ∙ (ap (λ (t : List ℕ). t ++ 45 ∷ [])
-    (joins.written
-    ∙ (ap (λ (xs : List ℕ). before ++ joined decimal xs) (empty_list (filter (λ i. chosen s i) (range_with_len 0 n)) (sym joins.some ∙ none))
-    ∙ append-nil before))
-    ∙ ap (λ (t : List ℕ). before ++ t)
-    (ap items_text (sym (empty_list (filter (λ i. chosen s i) (range_with_len 0 n)) (sym joins.some ∙ none)))
-    ∙ ap (λ (m : ℕ). items_text (filter (λ i. chosen s i) (range_with_len 0 m))) all))
+  shown_next : (n : ℕ) (x : Option ℕ) → x ≡ shown_at i s n → shown_before (n + 1) ≡ shown_before n ++ option_to_list x
+  shown_next n x is =
+      flat_map-range-more (λ place. option_to_list (shown_at i s place)) n
+      ∙ ap (λ (y : Option ℕ). shown_before n ++ option_to_list y) (sym is)
 
--- the next item is chosen and was written, or it is not chosen
-pub item_written :
-    (s : Solution) (before text : List ℕ) (any : Bool) (n : ℕ)
-    → Joins decimal before (filter (λ i. chosen s i) (range_with_len 0 n)) text any → (text' : List ℕ) (any' : Bool)
-    → chosen s n ≡ true → text' ≡ text ++ (gap any ++ decimal n) → any' ≡ true
-    → Joins decimal before (filter (λ i. chosen s i) (range_with_len 0 (n + 1))) text' any'
-item_written s before text any n joins text' any' taken more some =
-    rw (filter-range-more (λ i. chosen s i) n true (sym taken), some)
-    (Joins-push decimal before (filter (λ i. chosen s i) (range_with_len 0 n)) text any joins n text' more)
+  -- the numbers of a solution, written to the last
+  pub solution_written :
+      (before text : List ℕ) (any : Bool) (n : ℕ) → Joins decimal before (shown_before n) text any → n ≡ s.len → any ≡ true
+      → text ≡ before ++ solution_text i s
+  solution_written before text any n joins all some =
+      joins.written
+      ∙ ap (λ (t : List ℕ). before ++ t)
+      (numbers_joined (shown_before n) (sym joins.some ∙ some) ∙ ap (λ (m : ℕ). numbers_or_dash (shown_before m)) all)
 
-pub item_left :
-    (s : Solution) (before text : List ℕ) (any : Bool) (n : ℕ)
-    → Joins decimal before (filter (λ i. chosen s i) (range_with_len 0 n)) text any → (text' : List ℕ) (any' : Bool)
-    → chosen s n ≡ false → text' ≡ text → any' ≡ any
-    → Joins decimal before (filter (λ i. chosen s i) (range_with_len 0 (n + 1))) text' any'
-item_left s before text any n joins text' any' left same same_any =
-    rw (filter-range-more (λ i. chosen s i) n false (sym left), append-nil, same, same_any) joins
+  -- no number was written, and then the dash
+  pub no_solution_written :
+      (before text text' : List ℕ) (any : Bool) (n : ℕ) → Joins decimal before (shown_before n) text any → n ≡ s.len → any ≡ false
+      → text' ≡ text ++ 45 ∷ [] → text' ≡ before ++ solution_text i s
+  no_solution_written before text text' any n joins all none dash =
+      let nothing : shown_before n ≡ [] = empty_list (shown_before n) (sym joins.some ∙ none) in
+      dash
+      ∙ (ap (λ (t : List ℕ). t ++ 45 ∷ []) (joins.written ∙ (ap (λ (xs : List ℕ). before ++ joined decimal xs) nothing ∙ append-nil before))
+      ∙ ap (λ (t : List ℕ). before ++ t) (ap numbers_or_dash (sym nothing) ∙ ap (λ (m : ℕ). numbers_or_dash (shown_before m)) all))
+
+  -- the next place shows a number, which was written, or none
+  pub number_written :
+      (before text : List ℕ) (any : Bool) (n : ℕ) → Joins decimal before (shown_before n) text any → (text' : List ℕ) (any' : Bool) (number : ℕ)
+      → Some number ≡ shown_at i s n → text' ≡ text ++ (gap any ++ decimal number) → any' ≡ true → Joins decimal before (shown_before (n + 1)) text' any'
+  number_written before text any n joins text' any' number shows more some =
+      rw (shown_next n (Some number) shows, some) (Joins-push decimal before (shown_before n) text any joins number text' more)
+
+  pub nothing_shown :
+      (before text : List ℕ) (any : Bool) (n : ℕ) → Joins decimal before (shown_before n) text any → (text' : List ℕ) (any' : Bool)
+      → None ≡ shown_at i s n → text' ≡ text → any' ≡ any → Joins decimal before (shown_before (n + 1)) text' any'
+  nothing_shown before text any n joins text' any' shows same same_any =
+      rw (shown_next n None shows, append-nil, same, same_any) joins

@@ -5,7 +5,7 @@ mod Endings
 mod Serving
 mod KnapsackPoints
 mod Fronts
-mod SearchValues
+mod SearchCalls
 mod SearchRuns
 mod SearchTasks
 mod SearchOutcome

@@ -1,112 +1,92 @@
 -- The search from its begin to its outcome, as the run from its starts.
-use Rattle.std.proofs.Common.{◌≡◌, ℕ, zero, ◌+◌, ◌-◌, ◌<◌, Bool, true, false, not, List, [], ◌∷◌, ◌++◌, length, map, if◌then◌else◌, refl, sym, ap, ◌∙◌, subst, arith, length-append}
-use Rattle.std.proofs.lemmas.List.{length-map}
+use Rattle.std.proofs.Common.{◌≡◌, ℕ, ◌+◌, ◌-◌, nat_lt, Bool, true, false, ◌&&◌, not, List, [], ◌∷◌, ◌++◌, length, map, if◌then◌else◌, refl, sym, ap, ◌∙◌, subst, arith, append_assoc}
+use Rattle.std.specs.List.{flat_map}
+use Rattle.std.proofs.lemmas.List.{append-nil, length-map}
 use Rattle.pls_vectors.specs.Solution.{Solution}
 use Rattle.pls_archive.specs.declared.point.Point.{Point}
-use Rattle.pls_archive.specs.declared.call.Call.TheVariants.{Update}
+use Rattle.pls_archive.specs.declared.call.Call.TheVariants.{Snapshot}
 use Rattle.pls_archive.specs.declared.call.Entry.{Entry}
-use Rattle.pls_archive.specs.History.{submissions, with_call}
+use Rattle.pls_archive.specs.Lists.{total, how_many, one_if}
 use Rattle.pls_archive.specs.Reply.{members, in_order, nondominated}
-use Rattle.pls_archive.specs.Run.{Run, submitting, begun, ended, exploring_all}
-use Rattle.pls_archive.proofs.Histories.{submissions-with_snapshot, accepted-with_snapshot}
-use Rattle.pls_archive.proofs.Drawn.{sequential_run-DrawsMoves}
+use Rattle.pls_archive.specs.History.{submissions, next_entry, submitting}
+use Rattle.pls_archive.specs.Explorations.{Task, Exploration, tasks, entries_of, entries_of_run, evaluated_in, is_skipped, is_whole, is_cut}
+use Rattle.pls_archive.specs.Sequential.{explorations_left}
+use Rattle.pls_archive.proofs.Histories.{submissions-append}
+use Rattle.pls_archive.proofs.SequentialCalls.{tasks-append}
 use Rattle.pls_problem.specs.declared.instance.Instance.{Instance}
 use Rattle.pls_top.specs.Sequential.{point_of, neighbour_points, run_from}
-use Rattle.pls_top.specs.Search.{Submits, SubmitsAll, Follows, IsAt, run_at, ExploresAll, Reports, Shows}
+use Rattle.pls_top.specs.Search.{Begins, Follows, MadeAll, ExploresAll, Reports, Shows}
 use Rattle.pls_top.specs.declared.report.Counts.{Counts}
 use Rattle.pls_top.specs.declared.report.End.TheVariants.{Closed, Stopped}
 use Rattle.pls_top.specs.declared.search.SearchState.{SearchState}
 use Rattle.pls_top.specs.declared.search.Outcome.{Outcome}
-use Rattle.pls_top.proofs.SearchRuns.{Follows-submit, length-submit}
 
 -- a search that has not begun
 pub record IsEmpty (moves : ℕ) (state : SearchState) : Type 0 where
-  pub archive : state.archive.items ≡ []
+  pub archive : state.archive.points ≡ []
   pub tasks : state.tasks.items ≡ []
   pub moves_left : state.moves_left ≡ moves
   pub explored : state.explored ≡ 0
 
-end-by_whole : (whole cut : Bool) → cut ≡ not whole → (if whole then Closed else Stopped) ≡ (if cut then Stopped else Closed)
-end-by_whole true cut e = rw e refl
-end-by_whole false cut e = rw e refl
-
--- one more point is submitted after others
-submitting-more :
-    (near : Point → List Point) (points : List Point) (p : Point) (history : List Entry)
-    → submitting nondominated near history (points ++ p ∷ [])
-    ≡ with_call nondominated 0 (submitting nondominated near history points) (Update p)
-submitting-more near [] p history = refl
-submitting-more near (q ∷ points) p history = submitting-more near points p (with_call nondominated 0 history (Update q))
-
-pub SubmitsAll-none : (k : Instance) (state : SearchState) → SubmitsAll k [] state state
-SubmitsAll-none k state =
-    record { runs = λ history follows. follows; bound = omega arith; moves_left = refl; explored = refl }
-
-pub SubmitsAll-more :
-    (k : Instance) (points : List Point) (p : Point) (before now after : SearchState)
-    → SubmitsAll k points before now → Submits p now after → SubmitsAll k (points ++ p ∷ []) before after
-SubmitsAll-more k points p before now after so_far submits =
-    let near = neighbour_points k in
-    record {
-      runs = λ history follows.
-          let earlier = submitting nondominated near history points in
-          subst (λ (h : List Entry). Follows h after) (sym (submitting-more near points p history))
-          (Follows-submit earlier p now after (so_far.runs history follows) submits);
-      bound = omega (arith, so_far.bound, length-submit p now after submits, length-append points (p ∷ []));
-      moves_left = submits.moves_left ∙ so_far.moves_left;
-      explored = submits.explored ∙ so_far.explored;
-    }
+end-by_whole : (whole : Bool) (cuts : ℕ) → cuts ≡ one_if (not whole) → (if whole then Closed else Stopped) ≡ (if nat_lt 0 cuts then Stopped else Closed)
+end-by_whole true cuts e = rw e refl
+end-by_whole false cuts e = rw e refl
 
 module _
     (k : Instance) (sols : List Solution) (moves : ℕ) (empty first last : SearchState) (whole : Bool)
-    (none : IsEmpty moves empty) (submits : SubmitsAll k (map (point_of k) sols) empty first) (explores : ExploresAll k first last whole) where
+    (none : IsEmpty moves empty) (begins : Begins k (map (point_of k) sols) empty first) (explores : ExploresAll k first last whole) where
   abbrev near : Point → List Point
   near = neighbour_points k
 
-  abbrev starts : List Point
-  starts = map (point_of k) sols
+  -- the history of the starts, and the explorations after it
+  abbrev begun : List Entry
+  begun = submitting nondominated 0 [] (map (point_of k) sols)
 
-  abbrev at_end : Run
-  at_end = ended nondominated near starts moves
+  abbrev xs : List Exploration
+  xs = explorations_left nondominated near begun moves 0
 
-  begun-run : run_at (begun nondominated near starts moves).history first ≡ begun nondominated near starts moves
-  begun-run =
-      let history = (begun nondominated near starts moves).history in
-      ap (λ (n : ℕ). let run : Run = record { history = history; moves_left = n; explored = first.explored; cut = false } in run)
-      (submits.moves_left ∙ none.moves_left)
-      ∙ ap (λ (n : ℕ). let run : Run = record { history = history; moves_left = moves; explored = n; cut = false } in run)
-      (submits.explored ∙ none.explored)
+  made : MadeAll k begun xs first last whole
+  made =
+      let unbegun : Follows [] empty = record {
+        archive = λ test. ap (how_many test) (sym none.archive);
+        tasks = none.tasks;
+        stamps = tt;
+      } in
+      subst (λ (n : ℕ). MadeAll k begun (explorations_left nondominated near begun n 0) first last whole) (begins.moves_left ∙ none.moves_left)
+      (explores.runs begun (begins.submits.follows [] unbegun))
 
-  IsAt-end : IsAt at_end last whole
-  IsAt-end =
-      let unbegun : Follows [] empty = record { archive = none.archive; tasks = none.tasks } in
-      let history = (begun nondominated near starts moves).history in
-      let follows = submits.runs [] unbegun in
-      let no_task = ap length none.tasks in
-      let enough : length first.tasks.items + first.moves_left < length starts + moves + 1 =
-      omega (arith, submits.bound, no_task, submits.moves_left, none.moves_left) in
-      subst (λ (run : Run). IsAt (exploring_all nondominated near (length starts + moves + 1) zero run) last whole) begun-run
-      (explores.runs history (length starts + moves + 1) follows enough)
+  -- all but the last entry of the run
+  abbrev before_last : List Entry
+  before_last = begun ++ flat_map entries_of xs
 
-  evaluated-end : moves - last.moves_left ≡ length (submissions (run_from k sols moves).history) - length sols
-  evaluated-end =
-      let (drawn, all, total) = sequential_run-DrawsMoves nondominated near starts moves in
-      let count = ap length all ∙ length-append starts drawn in
-      omega (arith, IsAt-end.moves_left, count, total, length-map sols (point_of k))
+  entries-run : entries_of_run (run_from k sols moves) ≡ before_last ++ next_entry nondominated 0 before_last Snapshot ∷ []
+  entries-run = sym (append_assoc begun (flat_map entries_of xs) (next_entry nondominated 0 before_last Snapshot ∷ []))
 
-  pub Shows-outcome : (outcome : Outcome) → Reports moves whole last outcome → Shows (length sols) (run_from k sols moves) outcome
+  submissions-run : submissions (entries_of_run (run_from k sols moves)) ≡ submissions before_last
+  submissions-run = ap submissions entries-run ∙ (submissions-append before_last _ ∙ append-nil (submissions before_last))
+
+  tasks-run : tasks (entries_of_run (run_from k sols moves)) ++ [] ≡ tasks before_last
+  tasks-run = append-nil _ ∙ (ap tasks entries-run ∙ (tasks-append before_last _ ∙ append-nil (tasks before_last)))
+
+  pub Shows-outcome : (outcome : Outcome) → Reports moves whole last outcome → Shows k (run_from k sols moves) outcome
   Shows-outcome outcome reports =
-      let history = at_end.history in
-      let follows = IsAt-end.follows in
+      let one_run : xs ++ [] ≡ xs = append-nil xs in
+      let explored_is : last.explored ≡ how_many (λ x. is_whole near x && not (is_skipped x)) (xs ++ []) =
+      made.explored ∙ (ap (λ (n : ℕ). n + how_many (λ x. is_whole near x && not (is_skipped x)) xs) (begins.explored ∙ none.explored)
+      ∙ (zero_plus _ ∙ ap (how_many (λ x. is_whole near x && not (is_skipped x))) (sym one_run))) in
+      let evaluated_is : moves - last.moves_left ≡ total evaluated_in (xs ++ []) =
+      omega (arith, made.moves_left, begins.moves_left, none.moves_left, ap (total evaluated_in) one_run) in
+      let accepted_is : length last.tasks.items ≡ length (tasks (entries_of_run (run_from k sols moves)) ++ []) =
+      ap length made.follows.tasks ∙ (length-map (tasks before_last) (λ (t : Task). t.point) ∙ ap length (sym tasks-run)) in
       record {
-        front =
-            reports.front (submissions history) follows.archive
-            ∙ ap (λ (ps : List Point). in_order (members ps)) (sym (submissions-with_snapshot nondominated 0 history));
+        front = reports.front before_last made.follows ∙ ap (λ (ps : List Point). in_order (members ps)) (sym submissions-run);
         counts =
             reports.counts
-            ∙ (ap (λ (n : ℕ). let counts : Counts = record { explored = n; evaluated = moves - last.moves_left; accepted = length last.tasks.items } in counts) (sym IsAt-end.explored)
-            ∙ (ap (λ (n : ℕ). let counts : Counts = record { explored = at_end.explored; evaluated = n; accepted = length last.tasks.items } in counts) evaluated-end
-            ∙ ap (λ (ps : List Point). let counts : Counts = record { explored = at_end.explored; evaluated = length (submissions (run_from k sols moves).history) - length sols; accepted = length ps } in counts)
-            (follows.tasks ∙ sym (accepted-with_snapshot nondominated 0 history))));
-        end = reports.end ∙ end-by_whole whole at_end.cut IsAt-end.cut;
+            ∙ (ap (λ (n : ℕ). let counts : Counts = record { explored = n; evaluated = moves - last.moves_left; accepted = length last.tasks.items } in counts) explored_is
+            ∙ (ap (λ (n : ℕ). let counts : Counts = record { explored = how_many (λ x. is_whole near x && not (is_skipped x)) (xs ++ []); evaluated = n; accepted = length last.tasks.items } in counts) evaluated_is
+            ∙ ap (λ (n : ℕ). let counts : Counts = record { explored = how_many (λ x. is_whole near x && not (is_skipped x)) (xs ++ []); evaluated = total evaluated_in (xs ++ []); accepted = n } in counts) accepted_is));
+        end = reports.end ∙ end-by_whole whole (how_many (is_cut near) xs) made.all;
       }
+    where
+      zero_plus : (n : ℕ) → 0 + n ≡ n
+      zero_plus n = omega arith

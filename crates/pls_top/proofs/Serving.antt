@@ -14,9 +14,9 @@ use Rattle.pls_problem.specs.declared.reader.BadInstance.{BadInstance as Fault}
 use Rattle.pls_problem.specs.declared.reader.BadInstance.TheVariants.{Memory}
 use Rattle.pls_top.specs.declared.search.Outcome.{Outcome}
 use Rattle.pls_top.specs.declared.status.Status.TheVariants.{Closed, BadInstance}
-use Rattle.pls_top.specs.Report.{report, demo_report, front_of, counts_of, end_of}
+use Rattle.pls_top.specs.Report.{report, demo_report}
 use Rattle.pls_top.specs.Search.{Shows}
-use Rattle.pls_top.specs.Sequential.{run_of}
+use Rattle.pls_top.specs.Sequential.{run_of, front_of, counts_of, end_of}
 use Rattle.pls_top.specs.Due.{Due, status_at, instance_line, searched, demonstrated, written_out, due, due_in, due_for, is_search, reads, most_bytes}
 use Rattle.pls_top.specs.Ending.{Streams, LacksMemory, Finishes, FinishesIfMemory, WasRead, IsEnding}
 
@@ -66,7 +66,7 @@ due-search s text is short = in_mode s.mode is
 -- ---- what the parts of the program write
 
 pub finishes_searched :
-    (s : Settings) (i : Instance) (outcome : Outcome) → Shows s.starts (run_of s i) outcome
+    (s : Settings) (i : Instance) (outcome : Outcome) → Shows i (run_of s i) outcome
     → (status : Status) → status ≡ status_at outcome.end
     → (text : List ℕ) → text ≡ report i outcome.front outcome.counts outcome.end
     → (faults faults' : ℕ) (written written' : Option (List ℕ)) (result : Status)
@@ -80,11 +80,11 @@ finishes_searched s i outcome shows status is_status text is_text faults faults'
     is_text
     ∙ (ap (λ front. report i front outcome.counts outcome.end) shows.front
     ∙ (ap (λ counts. report i (front_of run) counts outcome.end) shows.counts
-    ∙ ap (λ end. report i (front_of run) (counts_of s.starts run) end) shows.end)) in
-    inr (subst (D (status_at (end_of run))) same (subst (λ t. D t text) (is_status ∙ ap status_at shows.end) finishes))
+    ∙ ap (λ end. report i (front_of run) (counts_of i run) end) shows.end)) in
+    inr (subst (D (status_at (end_of i run))) same (subst (λ t. D t text) (is_status ∙ ap status_at shows.end) finishes))
 
 pub finishes_demonstrated :
-    (s : Settings) (i : Instance) → i ≡ made s.make → (outcome : Outcome) → Shows s.starts (run_of s i) outcome
+    (s : Settings) (i : Instance) → i ≡ made s.make → (outcome : Outcome) → Shows i (run_of s i) outcome
     → (status : Status) → status ≡ status_at outcome.end
     → (text : List ℕ) → text ≡ demo_report i s.seed outcome.front outcome.counts outcome.end
     → (faults faults' : ℕ) (written written' : Option (List ℕ)) (result : Status)
@@ -94,14 +94,14 @@ unfolding demonstrated
 finishes_demonstrated s i is_made outcome shows status is_status text is_text faults faults' written written' result finishes =
     let run = run_of s (made s.make) in
     let D : Status → List ℕ → Type 0 = λ t x. Finishes (record { status = t; text = x }) faults faults' written written' result in
-    let shows' : Shows s.starts run outcome = subst (λ (k : Instance). Shows s.starts (run_of s k) outcome) is_made shows in
+    let shows' : Shows (made s.make) run outcome = subst (λ (k : Instance). Shows k (run_of s k) outcome) is_made shows in
     let same =
     is_text
     ∙ (ap (λ k. demo_report k s.seed outcome.front outcome.counts outcome.end) is_made
     ∙ (ap (λ front. demo_report (made s.make) s.seed front outcome.counts outcome.end) shows'.front
     ∙ (ap (λ counts. demo_report (made s.make) s.seed (front_of run) counts outcome.end) shows'.counts
-    ∙ ap (λ end. demo_report (made s.make) s.seed (front_of run) (counts_of s.starts run) end) shows'.end))) in
-    inr (subst (D (status_at (end_of run))) same (subst (λ t. D t text) (is_status ∙ ap status_at shows'.end) finishes))
+    ∙ ap (λ end. demo_report (made s.make) s.seed (front_of run) (counts_of (made s.make) run) end) shows'.end))) in
+    inr (subst (D (status_at (end_of (made s.make) run))) same (subst (λ t. D t text) (is_status ∙ ap status_at shows'.end) finishes))
 
 pub finishes_made :
     (s : Settings) (text : List ℕ) → text ≡ instance_text (made s.make)

@@ -1,28 +1,31 @@
 -- The runs and the texts of small instances, computed.
-use Rattle.std.specs.Prelude.{◌≡◌, ℕ, true, List, [], ◌∷◌, length, None, codes}
+use Rattle.std.specs.Prelude.{◌≡◌, ℕ, true, List, [], ◌∷◌, None, codes}
 use Rattle.std.specs.Fmt.{digits}
 use Rattle.std.proofs.Common.{refl}
-use Rattle.pls_vectors.specs.Solution.{Solution, no_items, with_item}
+use Rattle.pls_vectors.specs.Solution.{Solution, no_items, with_item, byte, with_byte, entry, with_entry, with_entries, stored, swapped, reversed}
 use Rattle.pls_knapsack.specs.Instance.{value, fits, no_other_bit, feasible, filled}
 use Rattle.pls_knapsack.specs.Neighbours.{points, neighbours}
+use Rattle.pls_perms.specs.Assignment as assignment
+use Rattle.pls_perms.specs.Tour as tour
+use Rattle.pls_perms.specs.Permutation.{pairs}
 use Rattle.pls_problem.specs.declared.instance.Instance.{Instance}
-use Rattle.pls_problem.specs.declared.instance.Instance.TheVariants.{Knapsack}
+use Rattle.pls_problem.specs.declared.instance.Instance.TheVariants.{Knapsack, Assignment, Tour}
 use Rattle.pls_problem.specs.declared.reader.BadInstance.TheVariants.{Short, Range}
 use Rattle.pls_problem.specs.Instance.{value as value_of, neighbours as neighbours_of}
 use Rattle.pls_top.specs.declared.status.Status.TheVariants.{Usage}
-use Rattle.pls_top.specs.Sequential.{run_from}
-use Rattle.pls_top.specs.Report.{report, demo_report, front_of, counts_of, end_of}
+use Rattle.pls_top.specs.Sequential.{run_from, front_of, counts_of, end_of}
+use Rattle.pls_top.specs.Report.{report, demo_report}
 use Rattle.pls_top.specs.Due.{due, instance_line}
 
 -- the text of the sequential run from these starts
 abbrev found : Instance → List Solution → ℕ → List ℕ
 found i sols moves =
-    let run = run_from i sols moves in report i (front_of run) (counts_of (length sols) run) (end_of run)
+    let run = run_from i sols moves in report i (front_of run) (counts_of i run) (end_of i run)
 
 -- the same in three lines
 abbrev shown : Instance → List Solution → ℕ → List ℕ
 shown i sols moves =
-    let run = run_from i sols moves in demo_report i 9 (front_of run) (counts_of (length sols) run) (end_of run)
+    let run = run_from i sols moves in demo_report i 9 (front_of run) (counts_of i run) (end_of i run)
 
 -- two items that fit together
 abbrev two : Instance
@@ -124,6 +127,37 @@ two_starts :
     ≡ codes "front 1 knapsack 2\n4 4 : 0 1\nend stopped explored 0 evaluated 1 accepted 2\n"
 unfolding digits value fits no_other_bit feasible filled points neighbours value_of neighbours_of
 two_starts = refl
+
+-- two agents: each order is the other's one neighbour
+abbrev agents : Instance
+agents = Assignment (record { objectives = 2; agents = 2; costs = 1 ∷ 5 ∷ 5 ∷ 1 ∷ 5 ∷ 1 ∷ 1 ∷ 5 ∷ [] })
+
+two_agents :
+    found agents (stored (0 ∷ 1 ∷ []) ∷ []) 9
+    ≡ codes "front 2 assignment 2\n10 2 : 1 0\n2 10 : 0 1\nend closed explored 2 evaluated 2 accepted 2\n"
+unfolding digits value_of neighbours_of assignment.value assignment.total_cost assignment.neighbours pairs swapped stored with_entries with_entry with_byte byte entry
+two_agents = refl
+
+agents_shown :
+    shown agents (stored (1 ∷ 0 ∷ []) ∷ []) 9
+    ≡ codes "demo assignment 2 2 seed 9\nmembers 2 first 10 2 last 2 10\nend closed explored 2 evaluated 2 accepted 2\n"
+unfolding digits value_of neighbours_of assignment.value assignment.total_cost assignment.neighbours pairs swapped stored with_entries with_entry with_byte byte entry
+agents_shown = refl
+
+-- three cities: the other way round is as long
+three_cities :
+    found (Tour (record { objectives = 2; cities = 3; edges = 1 ∷ 2 ∷ 3 ∷ 4 ∷ 5 ∷ 6 ∷ [] })) (stored (0 ∷ 1 ∷ 2 ∷ []) ∷ []) 9
+    ≡ codes "front 1 tour 2\n6 15 : 0 1 2\nend closed explored 1 evaluated 1 accepted 1\n"
+unfolding digits value_of neighbours_of tour.value tour.tour_length tour.place_of tour.neighbours pairs reversed stored with_entries with_entry with_byte byte entry
+three_cities = refl
+
+-- four cities, of which one more way round is accepted
+four_cities :
+    found (Tour (record { objectives = 2; cities = 4; edges = 1 ∷ 9 ∷ 1 ∷ 1 ∷ 9 ∷ 1 ∷ 9 ∷ 1 ∷ 5 ∷ 5 ∷ 1 ∷ 9 ∷ [] }))
+    (stored (0 ∷ 1 ∷ 2 ∷ 3 ∷ []) ∷ []) 9
+    ≡ codes "front 2 tour 2\n20 12 : 0 2 1 3\n4 28 : 0 1 2 3\nend closed explored 2 evaluated 6 accepted 2\n"
+unfolding digits value_of neighbours_of tour.value tour.tour_length tour.place_of tour.neighbours pairs reversed stored with_entries with_entry with_byte byte entry
+four_cities = refl
 
 -- lines of faults
 no_line : due None [] ≡ record { status = Usage; text = codes "error usage\n" }

@@ -11,8 +11,8 @@ use Rattle.pls_problem.specs.declared.reader.BadInstance.TheVariants as fault
 use Rattle.pls_settings.specs.declared.choices.Mode.{Mode}
 use Rattle.pls_settings.specs.declared.choices.Mode.TheVariants.{Search, Make, Demo}
 use Rattle.pls_settings.specs.declared.choices.Settings.{Settings}
-use Rattle.pls_top.specs.Report.{report, demo_report, front_of, counts_of, end_of}
-use Rattle.pls_top.specs.Sequential.{run_of}
+use Rattle.pls_top.specs.Report.{report, demo_report}
+use Rattle.pls_top.specs.Sequential.{run_of, front_of, counts_of, end_of}
 use Rattle.pls_top.specs.declared.report.End.{End}
 use Rattle.pls_top.specs.declared.report.End.TheVariants as end
 use Rattle.pls_top.specs.declared.status.Status.{Status}
@@ -72,14 +72,14 @@ status_at end.Stopped = Stopped
 unfoldable pub searched : Settings → Instance → Due
 searched s i =
     let run = run_of s i in
-    record { status = status_at (end_of run); text = report i (front_of run) (counts_of s.starts run) (end_of run) }
+    record { status = status_at (end_of i run); text = report i (front_of run) (counts_of i run) (end_of i run) }
 
 -- the same in three lines, on the instance that the settings make
 unfoldable pub demonstrated : Settings → Due
 demonstrated s =
     let i = made s.make in
     let run = run_of s i in
-    record { status = status_at (end_of run); text = demo_report i s.seed (front_of run) (counts_of s.starts run) (end_of run) }
+    record { status = status_at (end_of i run); text = demo_report i s.seed (front_of run) (counts_of i run) (end_of i run) }
 
 -- the text of the instance that the settings make
 unfoldable pub written_out : Settings → Due

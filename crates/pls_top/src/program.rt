@@ -223,7 +223,7 @@ fn search_with(
     settings: &Settings,
     instance: &Instance,
 ) -> Result<Outcome, AllocError>
-    ensures { IfOk result (Shows settings.now.starts (run_of settings.now instance.now)) }
+    ensures { IfOk result (Shows instance.now (run_of settings.now instance.now)) }
 {
     let starts = starts(alloc, instance, settings.seed, settings.starts)?;
     search(alloc, instance, starts.as_slice(), settings.moves)

@@ -1,7 +1,7 @@
 //! The text of a search.
 
 ghost use Rattle.std.specs.Prelude.{◌≡◌, ◌++◌, IfOk, OnOk, option_copied, string_bytes};
-ghost use Rattle.pls_top.specs.Report.{report, demo_report, front_line, demo_line, members_line, kind_name, point_line, value_text, value_or_dash, choice_text, end_line};
+ghost use Rattle.pls_top.specs.Report.{report, demo_report, front_line, demo_line, members_line, point_line, value_text, value_or_dash, solution_text, end_line};
 
 use pls_archive::{Point, PointList};
 use pls_io::push_word;
@@ -41,7 +41,7 @@ pub fn report_text(
     let mut text = String::new(alloc);
     write_front(&mut text, instance, points.len())?;
     for point in points {
-        write_point(&mut text, point)?;
+        write_point(&mut text, instance, point)?;
     }
     write_end(&mut text, counts, end)?;
     Ok(text.into_bytes())
@@ -61,7 +61,7 @@ pub fn demo_text(
 {
     let mut text = String::new(alloc);
     write_made(&mut text, instance, seed)?;
-    write_members(&mut text, front.as_slice())?;
+    write_members(&mut text, instance, front.as_slice())?;
     write_end(&mut text, counts, end)?;
     Ok(text.into_bytes())
 }
@@ -69,7 +69,7 @@ pub fn demo_text(
 fn write_front(text: &mut String, instance: &Instance, points: usize) -> Result<(), AllocError>
     ensures { OnOk result (string_bytes text.new ≡ string_bytes text.old ++ front_line instance.now points) }
 {
-    let kind = kind_name(instance);
+    let kind = instance.kind().name();
     let objectives = instance.objectives();
     write!(text, "front {points} {kind} {objectives}\n")
 }
@@ -77,74 +77,69 @@ fn write_front(text: &mut String, instance: &Instance, points: usize) -> Result<
 fn write_made(text: &mut String, instance: &Instance, seed: u64) -> Result<(), AllocError>
     ensures { OnOk result (string_bytes text.new ≡ string_bytes text.old ++ demo_line instance.now seed) }
 {
-    let kind = kind_name(instance);
+    let kind = instance.kind().name();
     let size = instance.size();
     let objectives = instance.objectives();
     write!(text, "demo {kind} {size} {objectives} seed {seed}\n")
 }
 
-fn write_members(text: &mut String, points: &[Point]) -> Result<(), AllocError>
-    ensures { OnOk result (string_bytes text.new ≡ string_bytes text.old ++ members_line points.now) }
+fn write_members(text: &mut String, instance: &Instance, points: &[Point]) -> Result<(), AllocError>
+    ensures { OnOk result (string_bytes text.new ≡ string_bytes text.old ++ members_line instance.now points.now) }
 {
     let members = points.len();
     write!(text, "members {members} first ")?;
-    write_value_or_dash(text, points.first())?;
+    write_value_or_dash(text, instance, points.first())?;
     text.push_str(" last ")?;
-    write_value_or_dash(text, points.last())?;
+    write_value_or_dash(text, instance, points.last())?;
     text.push_str("\n")
 }
 
-/// The name of an instance's kind.
-fn kind_name(instance: &Instance) -> &'static str
-    ensures { result.now ≡ kind_name instance.now }
-{
-    match instance {
-        Instance::Knapsack(_) => "knapsack",
-    }
-}
-
 /// Writes the value of a point, or a dash for none.
-fn write_value_or_dash(text: &mut String, point: Option<&Point>) -> Result<(), AllocError>
-    ensures { OnOk result (string_bytes text.new ≡ string_bytes text.old ++ value_or_dash (option_copied point.entry)) }
+fn write_value_or_dash(
+    text: &mut String,
+    instance: &Instance,
+    point: Option<&Point>,
+) -> Result<(), AllocError>
+    ensures { OnOk result (string_bytes text.new ≡ string_bytes text.old ++ value_or_dash instance.now (option_copied point.entry)) }
 {
     match point {
-        Some(point) => write_value(text, &point.value),
+        Some(point) => write_value(text, instance, &point.value),
         None => text.push_str("-"),
     }
 }
 
-fn write_point(text: &mut String, point: &Point) -> Result<(), AllocError>
-    ensures { OnOk result (string_bytes text.new ≡ string_bytes text.old ++ point_line point.now) }
+fn write_point(text: &mut String, instance: &Instance, point: &Point) -> Result<(), AllocError>
+    ensures { OnOk result (string_bytes text.new ≡ string_bytes text.old ++ point_line instance.now point.now) }
 {
-    write_value(text, &point.value)?;
+    write_value(text, instance, &point.value)?;
     text.push_str(" : ")?;
-    write_choice(text, &point.sol)?;
+    write_solution(text, instance, &point.sol)?;
     text.push_str("\n")
 }
 
-/// Writes the parts of a value, separated by spaces.
-fn write_value(text: &mut String, value: &Vector) -> Result<(), AllocError>
-    ensures { OnOk result (string_bytes text.new ≡ string_bytes text.old ++ value_text value.now) }
+/// Writes the parts of a value as the instance has them, separated by spaces.
+fn write_value(text: &mut String, instance: &Instance, value: &Vector) -> Result<(), AllocError>
+    ensures { OnOk result (string_bytes text.new ≡ string_bytes text.old ++ value_text instance.now value.now) }
 {
     let parts = value.len();
     let mut any = false;
     for k in 0..parts {
-        let part = value.part(k);
+        let part = instance.original(value.part(k));
         push_word(text, any, part)?;
         any = true;
     }
     Ok(())
 }
 
-/// Writes the chosen items in ascending order, separated by spaces, or a dash for none.
-fn write_choice(text: &mut String, choice: &Sol) -> Result<(), AllocError>
-    ensures { OnOk result (string_bytes text.new ≡ string_bytes text.old ++ choice_text choice.now) }
+/// Writes the numbers that a solution shows, separated by spaces, or a dash for none.
+fn write_solution(text: &mut String, instance: &Instance, sol: &Sol) -> Result<(), AllocError>
+    ensures { OnOk result (string_bytes text.new ≡ string_bytes text.old ++ solution_text instance.now sol.now) }
 {
-    let items = choice.len();
+    let places = sol.len();
     let mut any = false;
-    for i in 0..items {
-        if choice.bit(i) {
-            push_word(text, any, i)?;
+    for place in 0..places {
+        if let Some(number) = instance.shown_at(sol, place) {
+            push_word(text, any, number)?;
             any = true;
         }
     }

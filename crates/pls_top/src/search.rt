@@ -1,26 +1,19 @@
-//! Pareto local search on one thread, over a plain list of the members.
+//! Pareto local search on one thread, over the list archive.
 
-ghost use Rattle.std.specs.Prelude.{◌≡◌, ◌+◌, ◌-◌, ◌^◌, ◌<◌, ◌≤◌, true, false, not, ◌&&◌, All, length, map, IfOk, OnOk, filter, vec_len, vec_capacity};
-ghost use Rattle.std.specs.Cmp.Lexicographic.{slice_cmp};
-ghost use Rattle.std.specs.List.Sorted.{IsPermutation, IsSortedByKey};
-ghost use Rattle.std.specs.Ordering.{int_cmp};
-ghost use Rattle.pls_vectors.specs.Archive.{dominates};
-ghost use Rattle.pls_vectors.specs.Dominance.{weakly_dominates};
-ghost use Rattle.pls_problem.specs.Instance.{feasible};
+ghost use Rattle.std.specs.Prelude.{◌≡◌, ◌-◌, ◌^◌, ◌<◌, ◌≤◌, [], ◌∷◌, All, true, false, length, map, IfOk, OnOk};
+ghost use Rattle.pls_problem.specs.Instance.{feasible, objectives};
 ghost use Rattle.pls_problem.specs.Walk.{IsWalkOf, current};
-ghost use Rattle.pls_archive.specs.Reply.{some_weakly_dominates, has_value};
 ghost use Rattle.pls_top.specs.Sequential.{point_of, run_from};
-ghost use Rattle.pls_top.specs.Search.{HasFeasible, StaysWithin, Submits, SubmitsAll, Explores, Visits, ExploresAll, Reports, Shows};
+ghost use Rattle.pls_top.specs.Search.{IsSearchOf, IsTask, StaysWithin, MayGain, Begins, Submits, Explores, Visits, ExploresAll, Reports, Shows};
 
 #[cfg(test)]
 mod tests;
 
 use crate::report::{Counts, End};
-use pls_archive::{Point, PointList};
+use pls_archive::{Plain, Point, PointList, Single, Taken};
 use pls_problem::{Instance, Walk};
 use pls_vectors::{Sol, Vector};
 use std::alloc::{AllocError, Global};
-use std::cmp::{Ordering, min};
 
 /// What a search found.
 #[derive(Debug, Drop)]
@@ -34,8 +27,7 @@ pub struct Outcome {
 /// A search so far.
 #[derive(Debug, Drop)]
 pub struct SearchState {
-    /// The members of the archive.
-    archive: Vec<Point>,
+    archive: Plain,
     /// All accepted points, in order of acceptance: each is a task once.
     tasks: Vec<Point>,
     moves_left: u64,
@@ -52,26 +44,25 @@ pub fn search(
     moves: u64,
 ) -> Result<Outcome, AllocError>
     requires { All (λ s. feasible instance.now s ≡ true) starts.now }
-    ensures { IfOk result (Shows (length starts.now) (run_from instance.now starts.now moves)) }
+    ensures { IfOk result (Shows instance.now (run_from instance.now starts.now moves)) }
 {
     let mut state = SearchState {
-        archive: Vec::new(alloc),
+        archive: Plain::new(alloc, instance.objectives()),
         tasks: Vec::new(alloc),
         moves_left: moves,
         explored: 0,
     };
     state.submit_all(instance, starts)?;
     let whole = state.explore_all(instance)?;
-    state.outcome(moves, whole)
+    state.outcome(alloc, moves, whole)
 }
 
 impl SearchState {
     /// Submits solutions in order, each with its value.
     fn submit_all(&mut self, instance: &Instance, sols: &[Sol]) -> Result<(), AllocError>
-        requires tasks { HasFeasible instance.now self.old }
+        requires of { IsSearchOf instance.now self.old }
         requires sols { All (λ s. feasible instance.now s ≡ true) sols.now }
-        ensures submits { OnOk result (SubmitsAll instance.now (map (point_of instance.now) sols.now) self.old self.new) }
-        ensures tasks { OnOk result (HasFeasible instance.now self.new) }
+        ensures { OnOk result (Begins instance.now (map (point_of instance.now) sols.now) self.old self.new) }
     {
         for sol in sols {
             let value = instance.value(sol);
@@ -82,7 +73,7 @@ impl SearchState {
 
     /// Explores every task in order, until a move is wanted and none is left. Whether all were explored.
     fn explore_all(&mut self, instance: &Instance) -> Result<bool, AllocError>
-        requires tasks { HasFeasible instance.now self.old }
+        requires of { IsSearchOf instance.now self.old }
         requires explored { self.old.explored ≡ 0 }
         ensures runs { IfOk result (ExploresAll instance.now self.old self.new) }
         ensures moves { OnOk result (self.new.moves_left ≤ self.old.moves_left) }
@@ -100,13 +91,13 @@ impl SearchState {
 
     /// Explores a task that is a member, and skips one that no longer is. Whether no move was wanting.
     fn visit(&mut self, instance: &Instance, task: &Point) -> Result<bool, AllocError>
-        requires tasks { HasFeasible instance.now self.old }
-        requires task { feasible instance.now task.now.sol ≡ true }
+        requires of { IsSearchOf instance.now self.old }
+        requires task { IsTask instance.now task.now }
         requires explored { self.old.explored < 2 ^ 64 - 1 }
         ensures runs { IfOk result (Visits instance.now task.now self.old self.new) }
         ensures within { OnOk result (StaysWithin instance.now self.old self.new) }
     {
-        if !is_member(&self.archive, &task.value) {
+        if !self.archive.member(&task.value) {
             return Ok(true);
         }
         self.explore(instance, task)
@@ -114,8 +105,8 @@ impl SearchState {
 
     /// Submits the neighbours of a point in order, and draws a move before each. Whether all were submitted.
     fn explore(&mut self, instance: &Instance, task: &Point) -> Result<bool, AllocError>
-        requires tasks { HasFeasible instance.now self.old }
-        requires task { feasible instance.now task.now.sol ≡ true }
+        requires of { IsSearchOf instance.now self.old }
+        requires task { IsTask instance.now task.now }
         requires explored { self.old.explored < 2 ^ 64 - 1 }
         ensures runs { IfOk result (Explores instance.now task.now self.old self.new) }
         ensures within { OnOk result (StaysWithin instance.now self.old self.new) }
@@ -134,12 +125,20 @@ impl SearchState {
 
     /// Submits a point: it becomes a member and a task, unless a member weakly dominates it.
     fn submit(&mut self, value: &Vector, sol: &Sol) -> Result<(), AllocError>
-        ensures { OnOk result (Submits (record { value = value.now; sol = sol.now }) self.old self.new) }
+        requires { length value.now ≡ self.old.archive.objectives }
+        ensures submits { OnOk result (Submits (record { value = value.now; sol = sol.now } ∷ []) self.old self.new) }
+        ensures gains { OnOk result (MayGain (record { value = value.now; sol = sol.now }) self.old self.new) }
     {
-        if is_covered(&self.archive, value) {
-            return Ok(());
+        self.tasks.try_reserve(1)?;
+        let point = &Point {
+            value: *value,
+            sol: *sol,
+        };
+        match self.archive.update(*point)? {
+            Taken::Added { .. } => self.tasks.push_reserved(*point),
+            Taken::Refused => {}
         }
-        self.accept(value, sol)
+        Ok(())
     }
 
     /// Submits the neighbour that a walk gave last; its solution is made only where no member weakly
@@ -150,120 +149,32 @@ impl SearchState {
         walk: &Walk,
         value: &Vector,
     ) -> Result<(), AllocError>
-        requires { IsWalkOf instance.now walk.now }
-        ensures { OnOk result (Submits (record { value = value.now; sol = current walk.now }) self.old self.new) }
+        requires walk { IsWalkOf instance.now walk.now }
+        requires parts { length value.now ≡ self.old.archive.objectives }
+        ensures submits { OnOk result (Submits (record { value = value.now; sol = current walk.now } ∷ []) self.old self.new) }
+        ensures gains { OnOk result (MayGain (record { value = value.now; sol = current walk.now }) self.old self.new) }
     {
-        if is_covered(&self.archive, value) {
+        if self.archive.covered(value) {
             return Ok(());
         }
         let mut sol = Sol::bits(1);
         instance.solution(walk, &mut sol);
-        self.accept(value, &sol)
-    }
-
-    /// Makes a point that no member weakly dominates a member and a task.
-    fn accept(&mut self, value: &Vector, sol: &Sol) -> Result<(), AllocError>
-        requires { some_weakly_dominates self.old.archive.items value.now ≡ false }
-        ensures { OnOk result (Submits (record { value = value.now; sol = sol.now }) self.old self.new) }
-    {
-        self.archive.try_reserve(1)?;
-        self.tasks.try_reserve(1)?;
-        drop_dominated(&mut self.archive, value);
-        let point = &Point {
-            value: *value,
-            sol: *sol,
-        };
-        self.archive.push_reserved(*point);
-        self.tasks.push_reserved(*point);
-        Ok(())
+        self.submit(value, &sol)
     }
 
     /// What the search found, with `moves` at its begin; `whole`: all tasks were explored.
-    fn outcome(self, moves: u64, whole: bool) -> Result<Outcome, AllocError>
+    fn outcome(self, alloc: Global, moves: u64, whole: bool) -> Result<Outcome, AllocError>
         requires { self.moves_left ≤ moves }
         ensures { IfOk result (Reports moves whole self) }
     {
-        let SearchState {
-            archive,
-            tasks,
-            moves_left,
-            explored,
-        } = self;
-        let mut front = archive;
-        sort_by_value(&mut front)?;
         Ok(Outcome {
-            front: PointList::from_vec(front),
+            front: self.archive.snapshot(alloc)?,
             counts: Counts {
-                explored,
-                evaluated: moves - moves_left,
-                accepted: tasks.len() as u64,
+                explored: self.explored,
+                evaluated: moves - self.moves_left,
+                accepted: self.tasks.len() as u64,
             },
             end: if whole { End::Closed } else { End::Stopped },
         })
     }
-}
-
-/// Whether a point's value weakly dominates the value.
-fn is_covered(points: &[Point], value: &Vector) -> bool
-    ensures { result ≡ some_weakly_dominates points.now value.now }
-{
-    points.iter().any(|point| covers(&point.value, value))
-}
-
-/// Whether a point has the value.
-fn is_member(points: &[Point], value: &Vector) -> bool
-    ensures { result ≡ has_value points.now value.now }
-{
-    points.iter().any(|point| equals(&point.value, value))
-}
-
-/// Keeps the points that the value does not dominate, in their order.
-fn drop_dominated(points: &mut Vec<Point>, value: &Vector)
-    ensures items { points.new.items ≡ filter (λ q. not (dominates weakly_dominates value.now q.value)) points.old.items }
-    ensures len { vec_len points.new ≤ vec_len points.old }
-    ensures capacity { vec_capacity points.new ≡ vec_capacity points.old }
-{
-    points.retain(|point| !dominates(value, &point.value));
-}
-
-/// Whether a value weakly dominates another; it does not where their lengths differ.
-fn covers(a: &Vector, b: &Vector) -> bool
-    ensures { result ≡ weakly_dominates a.now b.now }
-{
-    a.len() == b.len() && a.covers(b)
-}
-
-/// Whether a value dominates another; it does not where their lengths differ.
-fn dominates(a: &Vector, b: &Vector) -> bool
-    ensures { result ≡ dominates weakly_dominates a.now b.now }
-{
-    a.len() == b.len() && a.dominates(b)
-}
-
-/// Whether the values are equal: each weakly dominates the other.
-fn equals(a: &Vector, b: &Vector) -> bool
-    ensures { result ≡ (weakly_dominates a.now b.now && weakly_dominates b.now a.now) }
-{
-    covers(a, b) && covers(b, a)
-}
-
-/// Sorts the points in ascending lexicographic order of their values.
-fn sort_by_value(points: &mut Vec<Point>) -> Result<(), AllocError>
-    ensures same { IsPermutation points.old.items points.new.items }
-    ensures ascending { OnOk result (IsSortedByKey (λ p. p.value) (slice_cmp int_cmp) points.new.items) }
-{
-    points.sort_by(|a, b| lex(&a.value, &b.value))
-}
-
-/// The lexicographic order of values of any lengths.
-fn lex(a: &Vector, b: &Vector) -> Ordering
-    ensures { result ≡ slice_cmp int_cmp a.now b.now }
-{
-    for k in 0..min(a.len(), b.len()) {
-        let order = a.part(k).cmp(&b.part(k));
-        if order != Ordering::Equal {
-            return order;
-        }
-    }
-    a.len().cmp(&b.len())
 }

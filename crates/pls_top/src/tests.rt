@@ -10,6 +10,11 @@ const TWO_ITEMS: &str = "pls1 knapsack 2 2 1\n10\n3 1\n1 3\n2 3\n";
 const TWO_ITEMS_FOUND: &str =
     "front 1 knapsack 2\n4 4 : 0 1\nend closed explored 1 evaluated 2 accepted 1\n";
 
+const TWO_AGENTS: &str = "pls1 assignment 2 2\n1 5 5 1\n5 1 1 5\n";
+
+const TWO_AGENTS_FOUND: &str =
+    "front 2 assignment 2\n10 2 : 1 0\n2 10 : 0 1\nend closed explored 2 evaluated 2 accepted 2\n";
+
 /// The words of a command line.
 fn words_of(alloc: Global, words: &[&str]) -> Result<ArgWords, AllocError> {
     let mut line = ArgWords::new(alloc);
@@ -41,7 +46,7 @@ fn answered(
 const THREE_ITEMS: &str = "pls1 knapsack 2 3 1\n5\n3 1 2\n1 3 2\n2 3 4\n";
 
 // The words, the text, and what is answered and written.
-const TEXTS: [(&[&str], &str, Status, &str); 21] = [
+const TEXTS: [(&[&str], &str, Status, &str); 29] = [
     (&["search"], TWO_ITEMS, Status::Closed, TWO_ITEMS_FOUND),
     (
         &["search", "--moves", "0"],
@@ -151,6 +156,49 @@ const TEXTS: [(&[&str], &str, Status, &str); 21] = [
         "",
         Status::Closed,
         "demo knapsack 1 2 seed 9\nmembers 1 first 0 0 last 0 0\nend closed explored 1 evaluated 0 accepted 1\n",
+    ),
+    (&["search"], TWO_AGENTS, Status::Closed, TWO_AGENTS_FOUND),
+    (
+        &["search", "--seed", "1"],
+        "pls1 tour 2 3\n1 2 3\n4 5 6\n",
+        Status::Closed,
+        "front 1 tour 2\n6 15 : 0 1 2\nend closed explored 1 evaluated 1 accepted 1\n",
+    ),
+    (
+        &["search"],
+        "pls1 assignment 2 2\n1 5\n5 1\n5 1\n",
+        Status::BadInstance,
+        "error instance short 32\n",
+    ),
+    (
+        &["search", "--kind", "tour", "--size", "2"],
+        "pls1 tour 2 2\n1\n1\n",
+        Status::BadInstance,
+        "error instance range 12\n",
+    ),
+    (
+        &["make", "--kind", "tour", "--size", "3", "--seed", "5"],
+        "",
+        Status::Closed,
+        "pls1 tour 2 3\n59 51 44\n47 100 95\n",
+    ),
+    (
+        &["make", "--kind", "tour", "--size", "2"],
+        "",
+        Status::Usage,
+        "error usage\n",
+    ),
+    (
+        &["demo", "--kind", "tour", "--size", "5", "--seed", "2"],
+        "",
+        Status::Closed,
+        "demo tour 5 2 seed 2\nmembers 1 first 177 144 last 177 144\nend closed explored 3 evaluated 18 accepted 5\n",
+    ),
+    (
+        &["demo", "--kind", "assignment", "--size", "4", "--seed", "2"],
+        "",
+        Status::Closed,
+        "demo assignment 4 2 seed 2\nmembers 6 first 304 140 last 87 279\nend closed explored 8 evaluated 48 accepted 11\n",
     ),
     (
         &["make", "--size", "257"],
@@ -262,6 +310,7 @@ fn answers_a_sink_that_fails(rt: HostRuntime) -> Result<(), Fail> {
     let words = words_of(rt.alloc(), &["search"])?;
     let cases = [
         (TWO_ITEMS, 2, "front 1 kn"),
+        (TWO_AGENTS, 2, "front 2 as"),
         ("pls1", 1, ""),
         ("pls1", 2, "error inst"),
     ];

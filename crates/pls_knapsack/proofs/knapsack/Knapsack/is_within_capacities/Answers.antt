@@ -1,6 +1,6 @@
 use Rattle.std.proofs.Common.{nat_le, slice_index, refl, ◌∙◌, arith}
 use Rattle.pls_knapsack.specs.Instance.{weight, load}
-use Rattle.pls_knapsack.proofs.Ranges.{list_all-range_same}
+use Rattle.pls_vectors.proofs.Ranges.{list_all-range_same}
 use Rattle.pls_knapsack.proofs.Tallies.{small_capacity, small_weight, small_sum, fits-eight}
 use Rattle.pls_knapsack.proofs.knapsack.Knapsack.is_within_capacities.Goals as goal
 

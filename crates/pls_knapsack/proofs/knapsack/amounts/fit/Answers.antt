@@ -1,7 +1,7 @@
 use Rattle.std.proofs.Common.{◌≡◌, ℕ, ◌+◌, ◌-◌, ◌%◌, ◌^◌, ◌<◌, nat_le, nat_lt, slice_index, ◌∙◌, arith}
 use Rattle.std.proofs.lemmas.Bool.Decides.{nat_tests}
 use Rattle.pls_vectors.proofs.Signs.{below-or}
-use Rattle.pls_knapsack.proofs.Ranges.{list_all-range_more}
+use Rattle.pls_vectors.proofs.Ranges.{list_all-range_more}
 use Rattle.pls_knapsack.proofs.knapsack.amounts.fit.Goals as goal
 
 difference-fits :

@@ -1,7 +1,7 @@
 use Rattle.std.proofs.Common.{◌≡◌, ◌-◌, ◌*◌, ◌^◌, ℕ, nat_lt, slice_index, ap, ◌∙◌, arith}
 use Rattle.std.specs.List.{range_with_len, list_all}
 use Rattle.pls_knapsack.specs.Instance.{no_other_bit}
-use Rattle.pls_knapsack.proofs.Ranges.{list_all-range_more}
+use Rattle.pls_vectors.proofs.Ranges.{list_all-range_more}
 use Rattle.pls_knapsack.proofs.Tallies.{word-full, word-part}
 use Rattle.pls_knapsack.proofs.knapsack.choices.has_no_other_bit.Goals as goal
 use Rattle.pls_knapsack.proofs.knapsack.choices.has_no_other_bit.Goals.{then-bits-ge64, else-bits-ge64}

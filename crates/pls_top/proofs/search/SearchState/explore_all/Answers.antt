@@ -1,11 +1,12 @@
-use Rattle.std.proofs.Common.{Bool, arith, subst}
+use Rattle.std.proofs.Common.{◌≡◌, Some, Bool, arith, subst}
+use Rattle.std.specs.List.{slice_get}
 use Rattle.pls_top.specs.Search.{Visits}
-use Rattle.pls_top.proofs.SearchTasks.{AllGoOn-start, AllGoOn-more, ExploresAll-cut, ExploresAll-whole}
+use Rattle.pls_top.proofs.SearchTasks.{place_of, AllGoOn-start, AllGoOn-more, ExploresAll-cut, ExploresAll-whole}
 use Rattle.pls_top.proofs.search.SearchState.explore_all.Goals as goal
 
 pub loop-next-init : goal.loop-next-init
 loop-next-init c = record {
-  tasks = c.requires.tasks;
+  of = c.requires.of;
   goes_on = AllGoOn-start c.args.instance.now c.args.self.now;
   bound = omega arith;
   moves = omega arith;
@@ -18,11 +19,10 @@ loop-next-preserved c =
     let after = c.visit.new.self in
     let task = c.index.result.now in
     let visits = subst (λ (b : Bool). Visits c.args.instance.now task now after b) c.if-not-branch.false c.in_ok-visit.ensures.runs in
+    let at : slice_get now.tasks.items c.loop-next.next ≡ Some task = place_of now.tasks.items c.loop-next.next task c.index.ensures (omega arith) in
     record {
-      tasks = c.in_ok-visit.ensures.within.tasks;
-      goes_on =
-          AllGoOn-more c.args.instance.now c.args.self.now now after c.loop-next.next task
-          c.loop-next.invariant.goes_on c.index.ensures (omega arith) (omega arith) visits;
+      of = c.in_ok-visit.ensures.within.of;
+      goes_on = AllGoOn-more c.args.instance.now c.args.self.now now after c.loop-next.next task c.loop-next.invariant.goes_on at visits;
       bound = omega (arith, c.in_ok-visit.ensures.within.bound);
       moves = omega (arith, c.in_ok-visit.ensures.within.moves);
       explored = omega (arith, c.in_ok-visit.ensures.within.explored);
@@ -34,8 +34,8 @@ returns-then-not-branch-clause-runs c =
     let after = c.visit.new.self in
     let task = c.index.result.now in
     let visits = subst (λ (b : Bool). Visits c.args.instance.now task now after b) c.if-not-branch.true c.in_ok-visit.ensures.runs in
-    ExploresAll-cut c.args.instance.now c.args.self.now now after c.loop-next.next task
-    c.loop-next.invariant.goes_on c.index.ensures (omega arith) (omega arith) visits
+    let at : slice_get now.tasks.items c.loop-next.next ≡ Some task = place_of now.tasks.items c.loop-next.next task c.index.ensures (omega arith) in
+    ExploresAll-cut c.args.instance.now c.args.self.now now after c.loop-next.next task c.loop-next.invariant.goes_on at visits
 
 pub returns-clause-runs : goal.returns-clause-runs
 returns-clause-runs c =

@@ -1,0 +1,19 @@
+mod WorkedRows
+pub mod AssignmentNeighbours
+pub mod AssignmentTables
+pub mod Distinct
+pub mod Pairs
+pub mod PairsWithin
+pub mod Permutations
+pub mod PlaceOrder
+pub mod Places
+pub mod Signs
+pub mod StoredPermutations
+pub mod StoredTour
+pub mod Stretches
+pub mod Tables
+pub mod TotalCosts
+pub mod TourLengths
+pub mod TourValues
+pub mod TourWalks
+pub mod TwoPlaces

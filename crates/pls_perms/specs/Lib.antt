@@ -1,0 +1,10 @@
+pub mod Permutation
+pub mod Assignment
+pub mod AssignmentText
+pub mod Tour
+pub mod TourText
+pub mod Walk
+pub mod Table
+pub mod AssignmentWalk
+pub mod StoredTour
+pub mod TourWalk
