@@ -95,7 +95,7 @@ case ${1:-} in
     '')
         for folder in "$here"/*/; do basename "$folder"; done
         ;;
-    rows | walk)
+    perms | rows | walk)
         build_program "$1"
         build_plain "$1"
         compare 40 "$ours" "$plain"
