@@ -16,7 +16,7 @@ use crate::single::Single;
 use crate::{Point, PointList, Taken};
 use pls_vectors::Vector;
 use std::alloc::{AllocError, Global};
-use std::cmp::{Ordering, min};
+use std::cmp::min;
 use std::marker::Model;
 
 /// The nondominated archive as a list of its members, in the order in which they were accepted. It is the plain program with
@@ -86,8 +86,8 @@ impl Single for Plain {
     fn snapshot(&self, alloc: Global) -> Result<PointList, AllocError> {
         let mut points = Vec::new(alloc);
         points.extend_from_slice(&self.points)?;
-        sort_by_value(&mut points)?;
-        Ok(PointList::from_vec(points))
+        let list = PointList::sorted(points)?;
+        Ok(list)
     }
 }
 
@@ -133,25 +133,4 @@ fn equals(a: &Vector, b: &Vector) -> bool
     ensures { result ≡ (weakly_dominates a.now b.now && weakly_dominates b.now a.now) }
 {
     covers(a, b) && covers(b, a)
-}
-
-/// Sorts the points in ascending lexicographic order of their values.
-fn sort_by_value(points: &mut Vec<Point>) -> Result<(), AllocError>
-    ensures same { IsPermutation points.old.items points.new.items }
-    ensures ascending { OnOk result (IsSortedByKey (λ p. p.value) (slice_cmp int_cmp) points.new.items) }
-{
-    points.sort_by(|a, b| lex(&a.value, &b.value))
-}
-
-/// The lexicographic order of values of any lengths.
-fn lex(a: &Vector, b: &Vector) -> Ordering
-    ensures { result ≡ slice_cmp int_cmp a.now b.now }
-{
-    for k in 0..min(a.len(), b.len()) {
-        let order = a.part(k).cmp(&b.part(k));
-        if order != Ordering::Equal {
-            return order;
-        }
-    }
-    a.len().cmp(&b.len())
 }

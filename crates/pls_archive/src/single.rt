@@ -6,7 +6,7 @@ use pls_vectors::Vector;
 use std::alloc::{AllocError, Global};
 
 /// An archive on one thread. Contracts see it as a list of points, which are the members of all that was submitted, in any order.
-pub trait Single: Send + Drop {
+pub trait Single: Drop {
     ghost use Rattle.std.specs.Prelude.{◌≡◌, ℕ, List, length, IfOk, OnErr};
     ghost use Rattle.pls_archive.specs.declared.point.Point.{Point};
     ghost use Rattle.pls_archive.specs.declared.call.Call.TheVariants.{Covered, Member, Snapshot};
@@ -14,7 +14,7 @@ pub trait Single: Send + Drop {
     ghost use Rattle.pls_archive.specs.Archives.{Replies, Updates, yes_or_no};
 
     /// The rule by which it replies.
-    type Law: Rule + Send + Sync;
+    type Law: Rule;
 
     /// The number that the rule takes. No call changes it.
     ghost number: { Self → ℕ };

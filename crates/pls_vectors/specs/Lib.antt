@@ -5,3 +5,4 @@ pub mod Solution
 pub mod Vector
 pub mod Limits
 pub mod Box
+pub mod Word

@@ -9,8 +9,10 @@ mod laws;
 mod range;
 mod sol;
 mod vector;
+mod words;
 
 pub use laws::{archive_laws, dominance_laws};
 pub use range::{Decision, Range};
 pub use sol::Sol;
 pub use vector::Vector;
+pub use words::{from_word, to_word};

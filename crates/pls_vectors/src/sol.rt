@@ -112,6 +112,18 @@ impl Sol {
         byte(self.words[(i / 8) as usize], i % 8)
     }
 
+    /// The solution that is stored in these words.
+    pub fn of_words(len: u16, words: [u64; 32]) -> Sol
+        requires some { 1 ≤ len }
+        requires few { len ≤ 256 }
+        ensures { result ≡ record { len = len; words = words } }
+    {
+        Sol {
+            len: len as usize,
+            words,
+        }
+    }
+
     /// Exchanges entries `i` and `j`.
     pub fn swap(&mut self, i: u16, j: u16)
         requires i_in { i < self.old.len }
@@ -228,6 +240,9 @@ mod tests {
         }
         assert_eq!(rt; Sol::of_entries(&[0, 1, 2]), Sol::order(3));
         assert_eq!(rt; Sol::of_entries(&[2, 0]).word(0), 2);
+        let mut words = [0; 32];
+        words[0] = 2;
+        assert_eq!(rt; Sol::of_words(2, words), Sol::of_entries(&[2, 0]));
     }
 
     #[test]

@@ -14,7 +14,7 @@ use std::marker::Model;
 pub(crate) const MOST_PARTS: usize = 4;
 
 /// The greatest size of a part.
-const PART_BOUND: i64 = 1 << 40;
+pub(crate) const PART_BOUND: i64 = 1 << 40;
 
 /// Two to four objective values, each between `-2^40` and `2^40`. Larger is better in every part.
 #[derive(Clone, Copy, Debug, PartialEq, Eq)]

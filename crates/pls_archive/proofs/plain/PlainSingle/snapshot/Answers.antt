@@ -1,4 +1,4 @@
-use Rattle.std.proofs.Common.{◌≡◌, rules, List, ap, sym, subst}
+use Rattle.std.proofs.Common.{◌≡◌, rules, List, ap, subst}
 use Rattle.std.specs.List.Sorted.{IsPermutation}
 use Rattle.pls_archive.specs.declared.point.Point.{Point}
 use Rattle.pls_archive.specs.declared.call.Call.TheVariants.{Snapshot}
@@ -11,9 +11,8 @@ use Rattle.pls_archive.proofs.plain.PlainSingle.snapshot.Goals as goal
 pub returns : goal.returns
 returns c =
     let points = c.self.inside.points.items in
-    let sorted = c.sort_by_value.new.points.items in
+    let list = c.in_ok-list.list in
     let copied : c.extend_from_slice.new.self.items ≡ points = search rules in
-    let same = subst (λ (ps : List Point). IsPermutation ps sorted) copied c.in_ok-sort_by_value.ensures.same in
-    subst (λ (ps : List Point). Replies members nondominated ps Snapshot (Points c.from_vec.result)) (ap (λ a. a.points) c.self.view_is)
-    (subst (λ (list : List Point). Replies members nondominated points Snapshot (Points list)) (sym c.from_vec.ensures)
-    (snapshot-Replies points c.self.invariant.apart sorted same c.in_ok-sort_by_value.ensures.ascending))
+    let same = subst (λ (ps : List Point). IsPermutation ps list) copied c.in_ok-list.ensures.same in
+    subst (λ (ps : List Point). Replies members nondominated ps Snapshot (Points list)) (ap (λ a. a.points) c.self.view_is)
+    (snapshot-Replies points c.self.invariant.apart list same c.in_ok-list.ensures.ascending)

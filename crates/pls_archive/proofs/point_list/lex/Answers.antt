@@ -1,6 +1,6 @@
 use Rattle.std.proofs.Common.{◌≡◌, ◌+◌, ◌≤◌, min, length, drop, int_cmp, sym, ◌∙◌, arith, rules, length-drop}
 use Rattle.pls_archive.proofs.ValueOrder.{slice_cmp-at, slice_cmp-end, ord_min-nat, then-unequal, then-equal}
-use Rattle.pls_archive.proofs.plain.lex.Goals as goal
+use Rattle.pls_archive.proofs.point_list.lex.Goals as goal
 
 pub returns-then-ne : goal.returns-then-ne
 returns-then-ne c =
