@@ -1,8 +1,9 @@
 -- The first of the best, as a loop finds it.
-use Rattle.std.proofs.Common.{◌≡◌, ◌⊎◌, inl, inr, ℕ, zero, suc, ◌+◌, ◌<◌, ◌≤◌, nat_le, Bool, true, false, List, [], ◌∷◌, length, get_or, refl, ap, subst, arith}
+use Rattle.std.proofs.Common.{◌≡◌, ◌⊎◌, inl, inr, ℕ, zero, suc, ◌+◌, ◌<◌, ◌≤◌, nat_le, Bool, true, false, List, [], ◌∷◌, length, get_or, if◌then◌else◌, All, refl, ap, subst, arith}
 use Rattle.std.specs.List.{list_all}
 use Rattle.std.proofs.lemmas.Bool.{both_ways, false_from_ne_true, cases_Bool, cases_lt}
 use Rattle.std.proofs.lemmas.Bool.Decides.{nat_tests}
+use Rattle.std.proofs.lemmas.List.Elements.{All-head, All-tail}
 use Rattle.std.proofs.lemmas.List.Folds.{list_all_at}
 use Rattle.nd_tree.specs.First.{first_best}
 
@@ -36,6 +37,16 @@ module _ {A : Type 0} (good : A → A → Bool) where
         better = λ j d below. is.better (suc j) d (omega arith);
       } in
       rw worse (ap suc (IsFirst-first_best xs best rest))
+
+  -- it is one of the list
+  pub first_best-below : (xs : List A) → 0 < length xs → first_best good xs < length xs
+  first_best-below [] some = absurd (omega arith)
+  first_best-below (x ∷ []) some = omega arith
+  first_best-below (x ∷ y ∷ ys) some = either (list_all (good x) (y ∷ ys)) _ _ (first_best-below (y ∷ ys) (omega arith))
+    where
+      either : (b : Bool) (m n : ℕ) → m < n → (if b then 0 else suc m) < suc n
+      either true m n below = omega arith
+      either false m n below = omega arith
 
   module _ (order : IsOrder) where
     itself : (a : A) → good a a ≡ true
@@ -99,3 +110,19 @@ pub greatest-IsOrder : {A : Type 0} (key : A → ℕ) → IsOrder (λ (a b : A).
 greatest-IsOrder key =
     let least = least-IsOrder key in
     record { total = λ a b h. least.total b a h; transitive = λ a b c p q. least.transitive c b a q p }
+
+-- two tests that agree on the elements have the same first of the best
+module _ {A : Type 0} (good good' : A → A → Bool) (P : A → Type 0) (same : (a b : A) → P a → P b → good a b ≡ good' a b) where
+  list_all-same : (x : A) (xs : List A) → P x → All P xs → list_all (good x) xs ≡ list_all (good' x) xs
+  list_all-same x [] p all = refl
+  list_all-same x (y ∷ ys) p all =
+      let first = same x y p (All-head P y ys all) in
+      let rest = list_all-same x ys p (All-tail P y ys all) in
+      cc
+
+  pub first_best-same : (xs : List A) → All P xs → first_best good xs ≡ first_best good' xs
+  first_best-same [] all = refl
+  first_best-same (x ∷ xs) all =
+      let tests = list_all-same x xs (All-head P x xs all) (All-tail P x xs all) in
+      let rest = first_best-same xs (All-tail P x xs all) in
+      rw (tests, rest) refl

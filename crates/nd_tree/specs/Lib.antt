@@ -1,2 +1,10 @@
-pub mod First
+pub mod Boxes
 pub mod Closest
+pub mod First
+pub mod Insertion
+pub mod Nodes
+pub mod NodesFall
+pub mod Questions
+pub mod Seen
+pub mod Split
+pub mod Tree

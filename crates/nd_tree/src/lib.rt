@@ -1,6 +1,19 @@
-//! To which child of an inner node of an ND-tree (Jaszkiewicz and Lust 2018) a value goes.
+//! ND-trees (Jaszkiewicz and Lust 2018): an archive as a tree of boxes, to which child of an inner node a value goes, and how a full
+//! leaf is divided.
 #![tactic(auto)]
 
+mod boxes;
 mod children;
+mod choice;
+mod groups;
+mod hint;
+mod leaf;
+mod node;
+mod recent;
+#[cfg(test)]
+mod split_tests;
+mod tree;
 
 pub use children::closest;
+pub use groups::{Groups, split};
+pub use tree::NdTree;
