@@ -6,3 +6,4 @@ pub mod Passing
 pub mod Exchanges
 pub mod Giving
 pub mod Working
+pub mod Submitting

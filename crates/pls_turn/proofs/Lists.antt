@@ -1,5 +1,6 @@
 -- Prefixes, and the lists of callers that a pass holds.
 use Rattle.std.proofs.Common.{◌≡◌, ℕ, zero, suc, ◌+◌, ◌==◌, ◌⊎◌, inl, inr, ⊎_elim, Bool, true, Some, is_some, if◌then◌else◌, List, [], ◌∷◌, ◌++◌, length, refl, ap, sym, subst, ◌∙◌, arith, append-nil, append_assoc}
+use Rattle.std.specs.Prelude.{All}
 use Rattle.std.proofs.lemmas.Bool.{eq-eqb}
 use Rattle.pls_archive.specs.declared.call.Entry.{Entry}
 use Rattle.pls_archive.specs.Lists.{IsPrefix, one_if, how_many}
@@ -55,3 +56,8 @@ module _ {A : Type 0} where
       by_place : (k : ℕ) → get_elem? (x ∷ xs) k ≡ some a → P k a
       by_place zero here = subst (P 0) (some-injective x a here) first
       by_place (suc k) here = subst (λ n. P n a) (let next : k + 1 ≡ suc k = omega arith in next) (each k a here)
+
+  pub each_all : (P : A → Type 0) (xs : List A) → ((i : ℕ) (a : A) → get_elem? xs i ≡ some a → P a) → All P xs
+  each_all P [] each k d below = absurd (omega arith)
+  each_all P (x ∷ xs) each zero d below = each 0 x refl
+  each_all P (x ∷ xs) each (suc k) d below = each_all P xs (λ i a at. each (suc i) a at) k d (omega arith)

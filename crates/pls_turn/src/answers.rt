@@ -1,6 +1,6 @@
 //! What a call answers, as contracts see it, without a value of [`Call`](pls_archive::Call).
 
-use pls_archive::PointList;
+use pls_archive::{Point, PointList, Taken};
 use pls_vectors::Vector;
 use std::snapshot::Snapshot;
 
@@ -12,6 +12,22 @@ pub trait Answer {
     ghost call: { Self → Call };
 
     ghost reply: { Self → Reply };
+}
+
+/// A point was submitted.
+#[derive(Drop)]
+pub struct Submitted {
+    pub point: Snapshot<Point>,
+    pub taken: Taken,
+}
+
+impl Answer for Submitted {
+    ghost use Rattle.pls_archive.specs.declared.call.Call.TheVariants.{Update};
+    ghost use Rattle.pls_archive.specs.Archives.{reply_of};
+
+    ghost call = { λ a. Update a.point.value };
+
+    ghost reply = { λ a. reply_of a.taken };
 }
 
 /// A value is covered, or is not.

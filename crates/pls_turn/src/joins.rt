@@ -7,8 +7,8 @@ use crate::turned::{TurnPass, Turned};
 use pls_archive::{Rule, Single};
 
 impl<S: Single> Turned<S> {
-    /// The pass takes over the lists of another, and keeps the longer observed prefix.
-    pub fn join(&self, pass: &mut TurnPass<S>, other: TurnPass<S>)
+    // The pass takes over the lists of another, and keeps the longer observed prefix.
+    pub(crate) fn join(&self, pass: &mut TurnPass<S>, other: TurnPass<S>)
         requires pass { IsPassOf self.now pass.old }
         requires other { IsPassOf self.now other }
         ensures pass { IsPassOf self.now pass.new }

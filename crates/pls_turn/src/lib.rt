@@ -11,10 +11,14 @@ mod joins;
 mod plays;
 mod questions;
 mod seen;
+mod shared_calls;
 mod starts;
 mod terms;
+#[cfg(test)]
+mod tests;
 mod turned;
 mod turns;
+mod updates;
 mod work;
 
 pub use turned::{TurnPass, Turned};

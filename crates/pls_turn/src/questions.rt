@@ -15,8 +15,13 @@ use std::snapshot;
 use std::sync::Wait;
 
 impl<S: Single> Turned<S> {
-    /// Whether the value is covered, and the stamp of that answer.
-    pub fn covered<R: Wait>(&self, rt: &R, pass: &mut TurnPass<S>, value: Vector) -> (bool, u64)
+    // Whether the value is covered, and the stamp of that answer.
+    pub(crate) fn covered<R: Wait>(
+        &self,
+        rt: &R,
+        pass: &mut TurnPass<S>,
+        value: Vector,
+    ) -> (bool, u64)
         requires pass { IsPassOf self.now pass.old }
         requires parts { length value ≡ S.objectives (terms_of self.now).single.value }
         ensures pass { IsPassOf self.now pass.new }
@@ -30,8 +35,13 @@ impl<S: Single> Turned<S> {
         (yes, count)
     }
 
-    /// Whether the value is that of a member, and the stamp of that answer.
-    pub fn member<R: Wait>(&self, rt: &R, pass: &mut TurnPass<S>, value: Vector) -> (bool, u64)
+    // Whether the value is that of a member, and the stamp of that answer.
+    pub(crate) fn member<R: Wait>(
+        &self,
+        rt: &R,
+        pass: &mut TurnPass<S>,
+        value: Vector,
+    ) -> (bool, u64)
         requires pass { IsPassOf self.now pass.old }
         requires parts { length value ≡ S.objectives (terms_of self.now).single.value }
         ensures pass { IsPassOf self.now pass.new }
@@ -45,8 +55,8 @@ impl<S: Single> Turned<S> {
         (yes, count)
     }
 
-    /// The members in ascending lexicographic order of values, and the stamp of that answer.
-    pub fn snapshot<R: Wait>(
+    // The members in ascending lexicographic order of values, and the stamp of that answer.
+    pub(crate) fn snapshot<R: Wait>(
         &self,
         rt: &R,
         alloc: Global,

@@ -7,7 +7,7 @@ use Rattle.pls_turn.proofs.turned.Turned.answer.Goals as goal
 
 pub give_back-requires-clause-may : goal.give_back-requires-clause-may
 give_back-requires-clause-may g c =
-    let due = c.requires.due in λ κs lives. (
+    let due = c.requires.due in (
       due.archive.0,
       due.archive.1,
       (given_back g.S.Law.Rule.front g.S.Law.Rule.reply g.S.Single.number g.S.Single.objectives g.S.Single.points (terms_of c.args.self.now) c.args.pass.now.seat.me.0 c.requires.turn

@@ -4,8 +4,7 @@ use Rattle.pls_turn.proofs.turned.Turned.let_go.Goals as goal
 pub give_back-requires-clause-may : goal.give_back-requires-clause-may
 give_back-requires-clause-may g c =
     let turn = c.requires.turn in
-    let archive = c.requires.archive in
-    λ κs lives. (
+    let archive = c.requires.archive in (
       archive.0,
       archive.1,
       record {

@@ -33,7 +33,6 @@ seated-other-requires-clause-view g c =
     let made = c.split_seat-other.ensures in
     let low : c.loop-number.number < c.args.passes = search rules in
     let next : c.args.passes - c.loop-number.number ≡ suc (c.args.passes - (c.loop-number.number + 1)) = omega arith in
-    λ κs lives.
     ap (λ m. m.0.view) made.4
     ∙ (ap {A = View} {B = View} (λ v. view_with v.observed v.others) view
     ∙ no_calls_first c.loop-number.number (c.args.passes - c.loop-number.number) (c.args.passes - (c.loop-number.number + 1)) next)
