@@ -17,3 +17,4 @@ pub mod TourLengths
 pub mod TourValues
 pub mod TourWalks
 pub mod TwoPlaces
+pub mod StretchEnds

@@ -36,7 +36,7 @@ impl<T: Drop> OneQueue<T> {
     }
 }
 
-impl<T: Drop> Pool<T> for OneQueue<T> {
+impl<T: Drop + Send> Pool<T> for OneQueue<T> {
     ghost use Rattle.pls_pool.specs.QueueSeats.{account_of, IsQueueSeatOf};
 
     type Seat = QueueSeat<T>;

@@ -5,12 +5,12 @@ use std::sync::Wait;
 /// A pool of tasks that several seats share: each task that is put is taken once, or is left.
 ///
 /// Nothing is said of who takes a task, or that anybody does.
-pub trait Pool<T> {
+pub trait Pool<T>: Sync {
     ghost use Rattle.std.specs.Prelude.{◌≡◌, ℕ, ◌+◌, ◌≤◌, length, MatchOption, MatchResult};
     ghost use Rattle.pls_pool.specs.Accounts.{Account, Apart, Puts, Takes, FindsNone, Joins, HoldsAll, IsAmong};
 
     /// One worker's seat.
-    type Seat;
+    type Seat: Send + Drop;
 
     /// How many seats the start made. No call changes it.
     ghost seats: { Self → ℕ };

@@ -170,7 +170,7 @@ fn put_and_take<P: Pool<u32>, R: Wait>(
 
 // Two threads put and take; then their seats are joined.
 #[tactic(auto, using(crate::proofs::Apartness::apart_ones))]
-fn by_two<P: Pool<u32> + Sync, R: Threads + Wait + Sync>(
+fn by_two<P: Pool<u32>, R: Threads + Wait + Sync>(
     rt: &R,
     alloc: Global,
     pool: &P,
@@ -178,8 +178,6 @@ fn by_two<P: Pool<u32> + Sync, R: Threads + Wait + Sync>(
     b: P::Seat,
     first: u32,
 ) -> (P::Seat, Vec<u32>, Vec<u32>)
-where
-    P::Seat: Drop + Send,
     requires seats { P.belongs pool.now a × P.belongs pool.now b }
     requires numbers { ((P.account a).numbers ≡ first ∷ []) × ((P.account b).numbers ≡ (first + 1) ∷ []) }
     requires enough { 2 ≤ P.seats pool.now }
@@ -235,14 +233,12 @@ fn drain<P: Pool<u32>, R: Wait>(
 
 // Whether four threads that put and take leave each number taken once.
 #[tactic(auto, using(crate::proofs::Apartness::apart_twos))]
-fn take_each_once<P: Pool<u32> + Sync, R: Threads + Wait + Sync>(
+fn take_each_once<P: Pool<u32>, R: Threads + Wait + Sync>(
     rt: &R,
     alloc: Global,
     pool: &P,
     seats: (P::Seat, P::Seat, P::Seat, P::Seat),
 ) -> Result<bool, AllocError>
-where
-    P::Seat: Drop + Send,
     requires first { P.belongs pool.now seats.0 × P.belongs pool.now seats.1 }
     requires second { P.belongs pool.now seats.2 × P.belongs pool.now seats.3 }
     requires first_numbers { ((P.account seats.0).numbers ≡ 0 ∷ []) × ((P.account seats.1).numbers ≡ 1 ∷ []) }

@@ -73,7 +73,7 @@ impl<T: Drop> Stealing<T> {
     }
 }
 
-impl<T: Drop> Pool<T> for Stealing<T> {
+impl<T: Drop + Send> Pool<T> for Stealing<T> {
     ghost use Rattle.std.specs.Prelude.{vec_len};
     ghost use Rattle.pls_pool.specs.StealSeats.{account_of, IsStealSeatOf};
 

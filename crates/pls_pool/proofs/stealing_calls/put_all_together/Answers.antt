@@ -11,8 +11,8 @@ use Rattle.pls_pool.proofs.stealing_calls.put_all_together.Goals as goal
 pub loop-init : goal.loop-init
 loop-init g c = ((let e = c.requires.count in omega (arith, c.args.theirs.ok.0, c.args.mine.now.ok.0)), refl, (λ j u there. there), (λ j u there low. there), λ j u there high. absurd (let low = below c.args.mine.now.items j u there in let e = c.requires.count in omega (arith, c.args.theirs.ok.0, c.args.mine.now.ok.0)))
 
-pub put_together-requires-clause-one : goal.put_together-requires-clause-one
-put_together-requires-clause-one g c =
+pub put_together-requires : goal.put_together-requires
+put_together-requires g c =
     let rest = c.pop.new.self.items in
     let r = c.index_mut.result.now in
     let was = c.loop.invariant in
@@ -20,29 +20,8 @@ put_together-requires-clause-one g c =
     let low : length rest < length c.loop.mine.items = (let a = ap length c.in-Some.ensures.items in let b = was.0 in let d = was.1 in omega (arith, length-append rest (c.in-Some.other ∷ []))) in
     let here = at_index c.loop.mine.items (length rest) r low (c.index_mut.ensures.value ∙ ap (λ k. slice_index_or c.loop.mine.items k r) place) in
     let at = step_places c.args.mine.now.items c.args.theirs.items c.loop.mine.items c.loop.theirs.items rest c.in-Some.other r c.in-Some.ensures.items here was.2 was.3 in
-    (c.requires.join (length rest) r c.in-Some.other at.0 at.1).0
-
-pub put_together-requires-clause-apart : goal.put_together-requires-clause-apart
-put_together-requires-clause-apart g c =
-    let rest = c.pop.new.self.items in
-    let r = c.index_mut.result.now in
-    let was = c.loop.invariant in
-    let place : c.len.result ≡ length rest = search rules in
-    let low : length rest < length c.loop.mine.items = (let a = ap length c.in-Some.ensures.items in let b = was.0 in let d = was.1 in omega (arith, length-append rest (c.in-Some.other ∷ []))) in
-    let here = at_index c.loop.mine.items (length rest) r low (c.index_mut.ensures.value ∙ ap (λ k. slice_index_or c.loop.mine.items k r) place) in
-    let at = step_places c.args.mine.now.items c.args.theirs.items c.loop.mine.items c.loop.theirs.items rest c.in-Some.other r c.in-Some.ensures.items here was.2 was.3 in
-    (c.requires.join (length rest) r c.in-Some.other at.0 at.1).1
-
-pub put_together-requires-clause-few : goal.put_together-requires-clause-few
-put_together-requires-clause-few g c =
-    let rest = c.pop.new.self.items in
-    let r = c.index_mut.result.now in
-    let was = c.loop.invariant in
-    let place : c.len.result ≡ length rest = search rules in
-    let low : length rest < length c.loop.mine.items = (let a = ap length c.in-Some.ensures.items in let b = was.0 in let d = was.1 in omega (arith, length-append rest (c.in-Some.other ∷ []))) in
-    let here = at_index c.loop.mine.items (length rest) r low (c.index_mut.ensures.value ∙ ap (λ k. slice_index_or c.loop.mine.items k r) place) in
-    let at = step_places c.args.mine.now.items c.args.theirs.items c.loop.mine.items c.loop.theirs.items rest c.in-Some.other r c.in-Some.ensures.items here was.2 was.3 in
-    (c.requires.join (length rest) r c.in-Some.other at.0 at.1).2
+    let may = c.requires.join (length rest) r c.in-Some.other at.0 at.1 in
+    record { one = may.0; apart = may.1; few = may.2 }
 
 pub loop-preserved : goal.loop-preserved
 loop-preserved g c =
