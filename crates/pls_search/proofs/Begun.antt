@@ -1,0 +1,125 @@
+-- What the first worker stands for once it has submitted the starts.
+use Rattle.std.proofs.Common.{◌≡◌, ◌≢◌, ◌↔◌, ◌⊎◌, inl, inr, ℕ, zero, suc, ◌+◌, ◌<◌, ◌≤◌, ◌==◌, ◌-◌, Bool, true, false, List, [], ◌∷◌, ◌++◌, length, map, take, drop, Some, Result, Ok, Err, refl, ap, sym, subst, ◌∙◌, arith, add-one, slice_index_or}
+use Rattle.std.specs.List.{remove}
+use Rattle.std.proofs.lemmas.Bool.{eqb-false, false≢true}
+use Rattle.std.proofs.lemmas.List.{length-map, length-drop, length-take}
+use Rattle.pls_archive.specs.declared.point.Point.{Point}
+use Rattle.pls_archive.specs.declared.call.Call.{Call}
+use Rattle.pls_archive.specs.declared.call.Call.TheVariants.{Update}
+use Rattle.pls_archive.specs.declared.call.Reply.{Reply}
+use Rattle.pls_archive.specs.declared.call.Entry.{Entry}
+use Rattle.pls_archive.specs.SearchRun.{SubmitsFirst, missing}
+use Rattle.pls_archive.specs.Explorations.{CallerRun}
+use Rattle.pls_archive.specs.View.{View, new_view, IsConsistent}
+use Rattle.pls_pool.specs.declared.cause.Cause.{Cause}
+use Rattle.pls_pool.specs.declared.cause.Cause.TheVariants.{Spent, Full, Memory}
+use Rattle.pls_pool.specs.declared.tally.Tally.{Tally}
+use Rattle.pls_problem.specs.declared.instance.Instance.{Instance}
+use Rattle.pls_search.specs.Crews.{AreSeated}
+use Rattle.pls_search.specs.Workers.{Hands, Work, GoesOn, IsNewWorker, StandsFor, work_of}
+use Rattle.pls_search.specs.Steps.{UnlessMemory, SubmitsStarts}
+use Rattle.pls_search.specs.Leaving.{OfTeam, Lacks, IsUnhalted, AreReady}
+use Rattle.pls_search.proofs.TeamJoins.{HasDone-stands, none_missing, team_begins}
+use mathlib.Core.Option.{some}
+use lib.ListN.{get_elem?}
+
+-- a pass that has made no call
+pub new_view-consistent : (reply : List Point → Call → Reply) (started number : ℕ) → IsConsistent reply started (new_view number)
+new_view-consistent reply started number = record {
+  observed = record { legal = tt; accepted = tt; begun = tt };
+  lists = (record { named = tt; told = refl; known = tt; judged = tt; rising = tt }, tt);
+}
+
+-- the first of some passes or seats in order of number, and the others
+module _ {T : Type 0} (P : ℕ → T → Type 0) where
+  pub Seated-removed :
+      (all rest : List T) (x : T) → 1 ≤ length all → x ≡ slice_index_or all 0 x → rest ≡ remove all 0 → AreSeated P all
+      → P 0 x × AreSeated (λ k y. P (k + 1) y) rest
+  Seated-removed [] rest x many is left seated = absurd (omega (arith, many))
+  Seated-removed (y ∷ ys) rest x many is left seated = (
+    subst (P 0) (sym is) (seated 0 y refl),
+    λ k z found. subst (λ n. P n z) (sym (add-one k)) (seated (suc k) z (subst (λ xs. get_elem? xs k ≡ some z) left found)),
+  )
+
+-- fewer starts were submitted than there are
+submitted-few : (starts : List Point) (es : List Entry) → SubmitsFirst starts es → length es ≤ length starts
+submitted-few starts es first =
+    let calls = sym (length-map es (λ (e : Entry). e.call)) ∙ (ap length first ∙ (length-map (take (length es) starts) Update ∙ length-take (length es) starts)) in
+    omega (arith, calls)
+
+positive : (n : ℕ) → (n ≡ 0 → ⊥) → 0 < n
+positive zero other = absurd (other refl)
+positive (suc n) other = omega arith
+
+some_missing : (starts : List Point) (r : CallerRun) → SubmitsFirst starts r.starts → (length r.starts == length starts) ≡ false → 0 < length (missing starts r)
+some_missing starts r first fewer =
+    let few = submitted-few starts r.starts first in
+    let long = length-drop (length r.starts) starts in
+    positive (length (missing starts r)) (λ none. eqb-false (length r.starts) (length starts) fewer (omega (arith, none, few, long)))
+
+abbrev failed : Cause → Result (Unit {0}) Cause
+failed cause = Err cause
+
+abbrev fine : Unit {0} → Result (Unit {0}) Cause
+fine u = Ok u
+
+not_full : (u : Unit {0}) → (fine u) ≡ Err Full → ⊥
+not_full u e = cc
+
+pub unfull-begun : {A B : Type 0} (u : Unit {0}) (end : Result (Unit {0}) Cause) → end ≡ Ok u → A ↔ (B ⊎ (end ≡ Err Full)) → (B → ⊥) → A → ⊥
+unfull-begun {B = B} u end is full none a = by_case (full.0 a)
+  where
+    by_case : B ⊎ (end ≡ Err Full) → ⊥
+    by_case (inl b) = none b
+    by_case (inr e) = not_full u (sym is ∙ e)
+
+module _ (reply : List Point → Call → Reply) (i : Instance) (starts : List Point) (started : ℕ) (before after : Hands) (new : IsNewWorker before)
+    (seen : before.view ≡ new_view 0) where
+  -- the worker alone is a team
+  team_of_one :
+      {P : Work → List Work → Type 0} (r : CallerRun) → SubmitsFirst starts r.starts → r.explorations ≡ [] → StandsFor i false false after r → (causes : List Cause)
+      → GoesOn reply started causes before after → P (work_of r false false after) [] → OfTeam i starts 1 P after
+  team_of_one r first none stands causes goes why =
+      let w = work_of r false false after in
+      record {
+        first = w;
+        others = [];
+        team =
+            team_begins i starts w after (HasDone-stands i false false after r stands) first none
+            (goes.number ∙ ap (λ (v : View). v.number) seen) (goes.others ∙ ap (λ (v : View). v.others) seen);
+        all = refl;
+        why = why;
+      }
+
+  -- all starts were submitted
+  pub ready : (u : Unit {0}) (end : Result (Unit {0}) Cause) → end ≡ Ok u → UnlessMemory end (SubmitsStarts i starts before after)
+      → GoesOn reply started [] before after → IsUnhalted before → AreReady i starts 1 after
+  ready u end is submits goes unhalted =
+      let submitted : SubmitsStarts i starts before after false false = subst (λ e. UnlessMemory e (SubmitsStarts i starts before after)) is submits in
+      let (r, first, none, all, stands) = submitted.begins new in
+      team_of_one r first none stands [] goes
+      (none_missing starts r all, refl, refl, goes.halts ∙ ap (λ (causes : List Cause). causes ++ []) unhalted)
+
+  -- no draw was made, and no want of room was shown
+  pub fresh-begun : (u : Unit {0}) (end : Result (Unit {0}) Cause) → end ≡ Ok u → UnlessMemory end (SubmitsStarts i starts before after) → after.tally.draws ≡ after.tally.goes
+  fresh-begun u end is submits =
+      let submitted : SubmitsStarts i starts before after false false = subst (λ e. UnlessMemory e (SubmitsStarts i starts before after)) is submits in
+      let (r, first, none, all, stands) = submitted.begins new in
+      omega (arith, stands.work.drawn)
+
+  -- the archive had no room for one
+  module _ (end : Result (Unit {0}) Cause) where
+    pub is_full : (cause : Cause) → end ≡ Err cause → UnlessMemory end (SubmitsStarts i starts before after) → cause ≢ Memory → end ≡ Err Full
+    is_full cause is submits other = is ∙ by_cause cause (subst (λ e. UnlessMemory e (SubmitsStarts i starts before after)) is submits) other
+      where
+        by_cause : (cause : Cause) → UnlessMemory (failed cause) (SubmitsStarts i starts before after) → cause ≢ Memory → failed cause ≡ Err Full
+        by_cause Spent submits other = absurd (false≢true (sym submits.unspent))
+        by_cause Full submits other = refl
+        by_cause Memory submits other = absurd (other refl)
+
+    pub lacking : (causes : List Cause) → end ≡ Err Full → UnlessMemory end (SubmitsStarts i starts before after) → GoesOn reply started causes before after
+        → OfTeam i starts 1 (Lacks starts) after
+    lacking causes is submits goes =
+        let submitted : SubmitsStarts i starts before after false true = subst (λ e. UnlessMemory e (SubmitsStarts i starts before after)) is submits in
+        let (r, first, none, fewer, stands) = submitted.begins new in
+        team_of_one r first none stands causes goes (some_missing starts r first fewer)

@@ -1,0 +1,19 @@
+pub mod Moments
+pub mod Neighbourhoods
+pub mod Turns
+pub mod Lining
+pub mod Numbers
+mod WorkedWorkers
+pub mod Beginning
+pub mod Totals
+pub mod Onwards
+pub mod TeamJoins
+pub mod TeamRuns
+pub mod TeamBounds
+pub mod TeamEnds
+pub mod TeamCounts
+pub mod Concluded
+pub mod Leavings
+pub mod Crews
+pub mod Gathered
+pub mod Begun

@@ -1,0 +1,143 @@
+-- What a worker did between two moments: by one call, and by steps one after the other.
+use Rattle.std.proofs.Common.{◌≡◌, ℕ, ◌+◌, List, [], ◌∷◌, ◌++◌, length, Result, Ok, Err, refl, ap, sym, ◌∙◌, append_assoc, arith, length-append}
+use Rattle.std.proofs.lemmas.List.{append-nil}
+use Rattle.pls_archive.specs.declared.point.Point.{Point}
+use Rattle.pls_archive.specs.declared.call.Call.{Call}
+use Rattle.pls_archive.specs.declared.call.Reply.{Reply}
+use Rattle.pls_archive.specs.declared.call.Entry.{Entry}
+use Rattle.pls_archive.specs.Lists.{how_many, one_if}
+use Rattle.pls_archive.specs.View.{View}
+use Rattle.pls_archive.specs.Explorations.{Task, tasks}
+use Rattle.pls_archive.proofs.Every.{total-append}
+use Rattle.pls_archive.proofs.SequentialCalls.{tasks-append}
+use Rattle.pls_pool.specs.Accounts.{Account, Takes}
+use Rattle.pls_pool.specs.Tallies.{finding}
+use Rattle.pls_pool.specs.declared.cause.Cause.{Cause}
+use Rattle.pls_pool.specs.declared.tally.Tally.{Tally}
+use Rattle.pls_search.specs.declared.task.Task.{Task as Waiting}
+use Rattle.pls_search.specs.Workers.{task_of, Hands, Did, GoesOn}
+use Rattle.pls_search.specs.Steps.{Halts}
+
+-- the counts at the desk stay
+pub record SameCounts (s t : Tally) : Type 0 where
+  pub opened : t.opened ≡ s.opened
+  pub draws : t.draws ≡ s.draws
+  pub goes : t.goes ≡ s.goes
+  pub done : t.done ≡ s.done
+
+pub SameCounts-self : (t : Tally) → SameCounts t t
+SameCounts-self t = record { opened = refl; draws = refl; goes = refl; done = refl }
+
+-- entries that make no task, with nothing put or taken and no count changed
+pub Did-entries :
+    (es : List Entry) (before after : Hands) → tasks es ≡ [] → after.view.own ≡ before.view.own ++ es → after.account ≡ before.account
+    → SameCounts before.tally after.tally → Did es [] 0 0 0 before after
+Did-entries es before after none own same counts =
+    let no_task = ap length none in
+    record {
+      own = own;
+      put = λ test.
+          let as_many = ap (λ (a : Account Waiting). a.put (λ t. test (task_of t))) same in
+          let nothing = ap (how_many test) none in
+          omega arith;
+      taken = λ test. let as_many = ap (λ (a : Account Waiting). a.taken (λ t. test (task_of t))) same in omega arith;
+      opened = omega (arith, counts.opened, no_task);
+      draws_are = omega (arith, counts.draws);
+      goes_are = omega (arith, counts.goes);
+      done_are = omega (arith, counts.done);
+    }
+
+pub Did-nothing :
+    (before after : Hands) → after.view.own ≡ before.view.own → after.account ≡ before.account → SameCounts before.tally after.tally
+    → Did [] [] 0 0 0 before after
+Did-nothing before after own same counts = Did-entries [] before after refl (own ∙ sym (append-nil before.view.own)) same counts
+
+-- one step after another
+pub Did-then :
+    {es fs all : List Entry} {ts us both : List Task} {d d2 ds g g2 gs k k2 ks : ℕ} {first between last : Hands}
+    → all ≡ es ++ fs → both ≡ ts ++ us → ds ≡ d + d2 → gs ≡ g + g2 → ks ≡ k + k2
+    → Did es ts d g k first between → Did fs us d2 g2 k2 between last → Did all both ds gs ks first last
+Did-then {es = es} {fs = fs} {ts = ts} {us = us} {first = first} entries both draws goes done one two =
+    let made = ap tasks entries ∙ tasks-append es fs in
+    record {
+      own = two.own ∙ (ap (λ (h : List Entry). h ++ fs) one.own ∙ (append_assoc first.view.own es fs ∙ ap (λ (h : List Entry). first.view.own ++ h) (sym entries)));
+      put = λ test.
+          let sums = ap (how_many test) made ∙ total-append (λ t. one_if (test t)) (tasks es) (tasks fs) in
+          omega (arith, one.put test, two.put test, sums);
+      taken = λ test.
+          let sums = ap (how_many test) both ∙ total-append (λ t. one_if (test t)) ts us in
+          omega (arith, one.taken test, two.taken test, sums);
+      opened = let count = ap length made ∙ length-append (tasks es) (tasks fs) in omega (arith, one.opened, two.opened, count);
+      draws_are = omega (arith, one.draws_are, two.draws_are, draws);
+      goes_are = omega (arith, one.goes_are, two.goes_are, goes);
+      done_are = omega (arith, one.done_are, two.done_are, done);
+    }
+
+-- and one that did nothing
+pub Did-after :
+    {es : List Entry} {ts : List Task} {d g k : ℕ} {first between last : Hands}
+    → Did es ts d g k first between → Did [] [] 0 0 0 between last → Did es ts d g k first last
+Did-after {es = es} {ts = ts} one two = Did-then (sym (append-nil es)) (sym (append-nil ts)) (omega arith) (omega arith) (omega arith) one two
+
+-- a task was taken
+pub Did-took :
+    (seats : ℕ) (task : Waiting) (before after : Hands) → after.view.own ≡ before.view.own → Takes seats task before.account after.account
+    → SameCounts before.tally after.tally → Did [] (task_of task ∷ []) 0 0 0 before after
+Did-took seats task before after own takes counts = record {
+  own = own ∙ sym (append-nil before.view.own);
+  put = λ test. omega (arith, takes.put (λ t. test (task_of t)));
+  taken = λ test. omega (arith, takes.taken (λ t. test (task_of t)));
+  opened = omega (arith, counts.opened);
+  draws_are = omega (arith, counts.draws);
+  goes_are = omega (arith, counts.goes);
+  done_are = omega (arith, counts.done);
+}
+
+-- a look at the desk
+pub SameCounts-found : (found : ℕ) (s t : Tally) → t ≡ finding found s → SameCounts s t
+SameCounts-found found s t looked = record {
+  opened = ap (λ (v : Tally). v.opened) looked;
+  draws = ap (λ (v : Tally). v.draws) looked;
+  goes = ap (λ (v : Tally). v.goes) looked;
+  done = ap (λ (v : Tally). v.done) looked;
+}
+
+-- the run is halted, where it has to be
+pub SameCounts-halts : (end : Result Unit Cause) (s t : Tally) → Halts end s t → SameCounts s t
+SameCounts-halts (Ok u) s t same = rw same (SameCounts-self s)
+SameCounts-halts (Err cause) s t halts = record {
+  opened = ap (λ (v : Tally). v.opened) halts;
+  draws = ap (λ (v : Tally). v.draws) halts;
+  goes = ap (λ (v : Tally). v.goes) halts;
+  done = ap (λ (v : Tally). v.done) halts;
+}
+
+module _ (reply : List Point → Call → Reply) (started : ℕ) where
+  pub GoesOn-then :
+      {cs ds all : List Cause} {first between last : Hands} → all ≡ cs ++ ds
+      → GoesOn reply started cs first between → GoesOn reply started ds between last → GoesOn reply started all first last
+  GoesOn-then {cs = cs} {ds = ds} {first = first} causes one two = record {
+    number = two.number ∙ one.number;
+    others = two.others ∙ one.others;
+    consistent = λ before. two.consistent (one.consistent before);
+    numbers = two.numbers ∙ one.numbers;
+    share = two.share ∙ one.share;
+    halts =
+        two.halts ∙ (ap (λ (h : List Cause). h ++ ds) one.halts ∙ (append_assoc first.tally.halts cs ds ∙ ap (λ (h : List Cause). first.tally.halts ++ h) (sym causes)));
+  }
+
+  -- a step at the seats alone
+  pub GoesOn-seats :
+      (causes : List Cause) (before after : Hands) → after.view ≡ before.view → after.account.numbers ≡ before.account.numbers
+      → after.tally.share ≡ before.tally.share → after.tally.halts ≡ before.tally.halts ++ causes → GoesOn reply started causes before after
+  GoesOn-seats causes before after view numbers share halts = record {
+    number = ap (λ (v : View). v.number) view;
+    others = ap (λ (v : View). v.others) view;
+    consistent = λ is. rw view is;
+    numbers = numbers;
+    share = share;
+    halts = halts;
+  }
+
+  pub GoesOn-self : (h : Hands) → GoesOn reply started [] h h
+  GoesOn-self h = GoesOn-seats [] h h refl refl refl (sym (append-nil h.tally.halts))

@@ -1,0 +1,9 @@
+pub mod Neighbours
+pub mod Workers
+pub mod Steps
+pub mod Onwards
+pub mod Teams
+pub mod Outcomes
+pub mod Leaving
+pub mod Crews
+pub mod InLine
