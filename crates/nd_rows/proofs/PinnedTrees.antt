@@ -1,0 +1,79 @@
+-- The tree that a pass has pinned, at the start of a question and after it.
+use Rattle.std.proofs.Common.{◌≡◌, ℕ, ◌≤◌, Some, List, [], ◌∷◌, ◌++◌, length, reverse, take, sym, ap, subst, ◌∙◌, arith, ℤ}
+use Rattle.std.proofs.lemmas.Option.{same_Some}
+use Rattle.era_core.specs.Lists.{In}
+use Rattle.era_core.specs.Versions.{Copy}
+use Rattle.era_core.proofs.Room.{length-below}
+use Rattle.era_rows.specs.Known.{Known, pinned_copy}
+use Rattle.era_rows.specs.Passes.{known_of, knows_of, seen_of, marked_of, memory_of, work_of, IsPassOf, HasSame}
+use Rattle.era_rows.specs.declared.pass.Pass.{Pass}
+use Rattle.era_rows.specs.declared.rows.Rows.{Rows}
+use Rattle.era_rows.specs.declared.law.Law.{Ghosts}
+use Rattle.pls_archive.specs.declared.call.Entry.{Entry}
+use Rattle.nd_rows.specs.Nodes.{Nodes, rows_of, necessary}
+use Rattle.nd_rows.specs.Layout.{IsTreeOf, StandsFor}
+use Rattle.nd_rows.specs.Reads.{LooksIn, ReadsNecessary, HasPinnedTree}
+use Rattle.nd_rows.specs.Walk.{ArePending, AreOnList}
+use Rattle.nd_rows.proofs.Looks.{looks_more, looks_work, has_same, same_copy, stays}
+
+-- the nodes of a tree are pending
+tree_pending : (objectives : ℕ) (c : Copy) (t : Nodes) → IsTreeOf objectives c t → ArePending objectives c t
+tree_pending objectives c t is = record { written = is.written; formed = is.formed; boxed = is.boxed; among = λ x here. subst (In x) (sym is.rows_are) here }
+
+module _ {L E : Type 0} {G : Ghosts L E} where
+  -- the tree has at most as many rows as there are
+  tree_few : (r : Rows L E) (objectives : ℕ) (p : Pass L E G) (t : Nodes) → IsPassOf r p → IsTreeOf objectives (pinned_copy (known_of p)) t → length (rows_of t) ≤ r.rows
+  tree_few r objectives p t is_pass is =
+      let few = length-below (known_of p).rows (pinned_copy (known_of p)).rows is.once p.tied.tree.inside in
+      let same = ap length is.rows_are in
+      let rows = is_pass.sized.rows_are in omega arith
+
+module _ {L : Type 0} {G : Ghosts L Entry} (r : Rows L Entry) (n : ℕ) (p : Pass L Entry G) (tree : HasPinnedTree r n p) where
+  -- with the root on the work list the tree is
+  pub root_on_list : (pin : ℕ × ℕ) → Some pin ≡ (known_of p).core.pinned → work_of p ≡ []
+      → (q : Pass L Entry G) → knows_of q ≡ knows_of p → work_of q ≡ work_of p ++ pin.1 ∷ [] → AreOnList r.shape (pinned_copy (known_of q)) r.rows (work_of q) tree.stands.0
+  root_on_list pin found idle q knows work =
+      let is = tree.stands.1 in
+      let root = tree.rooted ∙ ap (λ (x : ℕ × ℕ). x.1) (same_Some _ _ (sym tree.pinned ∙ sym found)) in
+      subst (λ (k : Known). AreOnList r.shape (pinned_copy k) r.rows (work_of q) tree.stands.0) (ap (λ k. k.view) (sym knows)) (record {
+        pending = tree_pending r.shape (pinned_copy (known_of p)) tree.stands.0 is;
+        on_list = is.rooted ∙ ap (λ x. x ∷ []) root ∙ ap reverse (sym (work ∙ ap (λ ws. ws ++ pin.1 ∷ []) idle));
+        few = tree_few r r.shape p tree.stands.0 tree.is_pass is;
+      })
+
+-- A question begins with the root on the work list
+pub record HasBegun {L E : Type 0} {G : Ghosts L E} (r : Rows L E) (v : List ℤ) (p q : Pass L E G) (t : Nodes) : Type 0 where
+  pub on_list : AreOnList (length v) (pinned_copy (known_of q)) r.rows (work_of q) t
+  pub looks : LooksIn r (necessary v t) p q
+
+module _ {L : Type 0} {G : Ghosts L Entry} (r : Rows L Entry) (v : List ℤ) (n : ℕ) (p : Pass L Entry G) (tree : HasPinnedTree r n p) (parts : length v ≡ r.shape) where
+  pub begun : (pin : ℕ × ℕ) → Some pin ≡ (known_of p).core.pinned → work_of p ≡ []
+      → (q : Pass L Entry G) → ((x : Rows L Entry) → IsPassOf x p → IsPassOf x q) → q.number ≡ p.number → knows_of q ≡ knows_of p → marked_of q ≡ marked_of p → memory_of q ≡ memory_of p → work_of q ≡ work_of p ++ pin.1 ∷ []
+      → HasBegun r v p q tree.stands.0
+  begun pin found idle q pass number knows marks memory work = record {
+    on_list = subst (λ (m : ℕ). AreOnList m (pinned_copy (known_of q)) r.rows (work_of q) tree.stands.0) (sym parts) (root_on_list r n p tree pin found idle q knows work);
+    looks = looks_work r (necessary v tree.stands.0) p q tree.is_pass pass number knows marks memory;
+  }
+
+  -- and ends with no node on it
+  module _ (q s : Pass L Entry G) (begins : HasBegun r v p q tree.stands.0) (looks : LooksIn r (necessary v tree.stands.0) q s) where
+    pub all_looks : LooksIn r (necessary v tree.stands.0) p s
+    all_looks = looks_more r (necessary v tree.stands.0) p q s begins.looks looks
+
+    pub all_reads : ReadsNecessary r.shape v (known_of p) (known_of s)
+    all_reads = (tree.stands.0, tree.stands.1, all_looks.reads)
+
+    pub all_same : work_of s ≡ [] → work_of p ≡ [] → HasSame p s
+    all_same done idle = has_same r (necessary v tree.stands.0) p s all_looks (done ∙ sym idle)
+
+-- after looks the same version is pinned
+pub still_pinned : {L : Type 0} {G : Ghosts L Entry} (r : Rows L Entry) (all : List ℕ) (p q : Pass L Entry G) → LooksIn r all p q → (n : ℕ) → HasPinnedTree r n p → HasPinnedTree r n q
+still_pinned r all p q looks n tree = record {
+  is_pass = looks.is_pass;
+  root = tree.root;
+  pinned = ap (λ (k : Known). k.core.pinned) looks.reads.now ∙ tree.pinned;
+  rooted = ap (λ (c : Copy). c.root) (same_copy r all p q looks) ∙ tree.rooted;
+  stands =
+      subst (λ (entries : List Entry). StandsFor r.shape (pinned_copy (known_of q)) (take n entries)) (sym looks.same_seen)
+      (stays r (λ (c : Copy). StandsFor r.shape c (take n (seen_of p))) all p q looks tree.stands);
+}

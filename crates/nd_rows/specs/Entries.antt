@@ -1,0 +1,30 @@
+-- Which entries are right at a shared ND-tree, and what the words say that a pass remembers.
+use Rattle.std.specs.Prelude.{◌≡◌, ℕ, Bool, List, map, take, length}
+use Rattle.pls_vectors.specs.Word.{from_word}
+use Rattle.pls_archive.specs.declared.call.Call.{Call}
+use Rattle.pls_archive.specs.declared.call.Call.TheVariants.{Update, Covered, Member, Snapshot}
+use Rattle.pls_archive.specs.declared.call.Entry.{Entry}
+use Rattle.pls_archive.specs.declared.call.Reply.TheVariants.{Added}
+use Rattle.pls_archive.specs.declared.point.Point.{Point}
+use Rattle.pls_archive.specs.History.{submissions}
+use Rattle.pls_archive.specs.Reply.{has_value, nondominated}
+
+-- what is handed in has so many parts
+abbrev pub HasParts : ℕ → Call → Type 0
+HasParts objectives (Update p) = length p.value ≡ objectives
+HasParts objectives (Covered v) = length v ≡ objectives
+HasParts objectives (Member v) = length v ≡ objectives
+HasParts objectives Snapshot = Unit {0}
+
+-- the entry has the reply of the nondominated archive after these entries
+pub record IsRight (objectives : ℕ) (e : Entry) (entries : List Entry) : Type 0 where
+  pub due : e.reply ≡ nondominated (submissions entries) e.call
+  pub parts : HasParts objectives e.call
+
+-- the first words are those of the value of a point that was submitted
+abbrev pub is_submitted : ℕ → List ℕ → List Entry → Bool
+is_submitted objectives words entries = has_value (submissions entries) (map from_word (take objectives words))
+
+-- the entry of a point that was added
+abbrev pub added : ℕ → ℕ → Point → ℕ → Entry
+added caller stamp point removed = record { caller = caller; stamp = stamp; call = Update point; reply = Added removed }
