@@ -1,0 +1,4 @@
+pub mod Removal
+pub mod Insertion
+pub mod Naming
+pub mod Updates

@@ -1,0 +1,6 @@
+//! The update of an ND-tree in shared rows.
+#![tactic(auto)]
+
+mod laws;
+
+pub use laws::update_laws;
