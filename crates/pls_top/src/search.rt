@@ -1,4 +1,4 @@
-//! Pareto local search on one thread, over the list archive.
+//! Pareto local search on one thread, over an ND-tree.
 
 ghost use Rattle.std.specs.Prelude.{◌≡◌, ◌-◌, ◌^◌, ◌<◌, ◌≤◌, [], ◌∷◌, All, true, false, length, map, IfOk, OnOk};
 ghost use Rattle.pls_problem.specs.Instance.{feasible, objectives};
@@ -10,7 +10,8 @@ ghost use Rattle.pls_top.specs.Search.{IsSearchOf, IsTask, StaysWithin, MayGain,
 mod tests;
 
 use crate::report::{Counts, End};
-use pls_archive::{Plain, Point, PointList, Single, Taken};
+use nd_tree::NdTree;
+use pls_archive::{Point, PointList, Single, Taken};
 use pls_problem::{Instance, Walk};
 use pls_vectors::{Sol, Vector};
 use std::alloc::{AllocError, Global};
@@ -25,9 +26,9 @@ pub struct Outcome {
 }
 
 /// A search so far.
-#[derive(Debug, Drop)]
+#[derive(Drop)]
 pub struct SearchState {
-    archive: Plain,
+    archive: NdTree,
     /// All accepted points, in order of acceptance: each is a task once.
     tasks: Vec<Point>,
     moves_left: u64,
@@ -47,7 +48,7 @@ pub fn search(
     ensures { IfOk result (Shows instance.now (run_from instance.now starts.now moves)) }
 {
     let mut state = SearchState {
-        archive: Plain::new(alloc, instance.objectives()),
+        archive: NdTree::new(alloc, instance.objectives()),
         tasks: Vec::new(alloc),
         moves_left: moves,
         explored: 0,
