@@ -16,11 +16,15 @@ build_program() {
     program="$work/crates/$1_time"
     rm -rf "$program/src" "$program/stdin" "$program/stdout"
     mkdir "$program/src"
-    cp "$here/$1/main.rt.txt" "$program/src/main.rt"
+    for file in "$here/$1"/*.rt.txt; do
+        cp "$file" "$program/src/$(basename "$file" .txt)"
+    done
     for file in "$here/$1"/*.antt.txt; do
-        proof=$(basename "$file" .txt)
-        mkdir -p "$program/proofs/${proof%%.*}"
-        cp "$file" "$program/proofs/${proof%%.*}/${proof#*.}"
+        place=$(basename "$file" .antt.txt)
+        [[ $place == specs.* ]] || place=proofs.$place
+        place=$program/${place//./\/}.antt
+        mkdir -p "$(dirname "$place")"
+        cp "$file" "$place"
     done
     while read -r crate below; do
         if [ "$crate" != "$1_time:" ]; then
@@ -95,7 +99,7 @@ case ${1:-} in
     '')
         for folder in "$here"/*/; do basename "$folder"; done
         ;;
-    perms | rows | walk)
+    archive | perms | pools | rows | walk)
         build_program "$1"
         build_plain "$1"
         compare 40 "$ours" "$plain"

@@ -5,13 +5,13 @@ use std::time::Instant;
 const NEIGHBOURS: u32 = 1_000_000;
 
 #[derive(Clone, Copy)]
-struct Sol {
+pub struct Sol {
     len: usize,
     words: [u64; 32],
 }
 
 impl Sol {
-    fn order(n: usize) -> Sol {
+    pub fn order(n: usize) -> Sol {
         let mut sol = Sol { len: n, words: [0; 32] };
         for i in 0..n {
             sol.set(i, i as u8);
@@ -44,13 +44,13 @@ impl Sol {
 }
 
 #[derive(Clone, Copy)]
-struct Vector {
+pub struct Vector {
     len: usize,
-    parts: [i64; 4],
+    pub parts: [i64; 4],
 }
 
 impl Vector {
-    fn covers(&self, other: &Vector) -> bool {
+    pub fn covers(&self, other: &Vector) -> bool {
         let (a, b) = (&self.parts, &other.parts);
         self.len == other.len && ((a[0] - b[0]) | (a[1] - b[1]) | (a[2] - b[2]) | (a[3] - b[3])) >= 0
     }
@@ -59,7 +59,7 @@ impl Vector {
 type Sums = [u32; 4];
 
 #[derive(Clone, Copy)]
-struct Walk {
+pub struct Walk {
     start: Sol,
     sums: Sums,
     first: usize,
@@ -95,7 +95,7 @@ fn table(long: usize, numbers: &[u32]) -> Vec<Sums> {
     (0..long).map(|place| std::array::from_fn(|k| numbers.get(k * long + place).copied().unwrap_or(0))).collect()
 }
 
-trait Kind {
+pub trait Kind {
     fn walk(&self, sol: &Sol) -> Walk;
     fn next_value(&self, walk: &mut Walk) -> Option<Vector>;
     fn solution(&self, walk: &Walk, into: &mut Sol);
@@ -140,13 +140,21 @@ impl Kind for Assignment {
     }
 }
 
-struct Tour {
+pub struct Tour {
     cities: usize,
     objectives: usize,
     table: Vec<Sums>,
 }
 
 impl Tour {
+    pub fn new(cities: usize, objectives: usize, edges: &[u32]) -> Tour {
+        Tour { cities, objectives, table: table(cities * (cities - 1) / 2, edges) }
+    }
+
+    pub fn value(&self, sol: &Sol) -> Vector {
+        vector(&self.walk(sol).sums, self.objectives)
+    }
+
     fn between(&self, a: u8, b: u8) -> &Sums {
         let (a, b) = (a.min(b) as usize, a.max(b) as usize);
         &self.table[a * (2 * self.cities - a - 1) / 2 + (b - a - 1)]
@@ -255,10 +263,8 @@ fn main() {
             let costs = numbers(objectives * n * n, 1);
             let k = Assignment { agents: n, objectives, table: table(n * n, &costs) };
             time("assignment", &k, n, objectives);
-            let long = n * (n - 1) / 2;
-            let edges = numbers(objectives * long, 2);
-            let k = Tour { cities: n, objectives, table: table(long, &edges) };
-            time("tour", &k, n, objectives);
+            let edges = numbers(objectives * n * (n - 1) / 2, 2);
+            time("tour", &Tour::new(n, objectives, &edges), n, objectives);
         }
     }
 }

@@ -6,6 +6,7 @@ use std::thread;
 use std::time::Instant;
 
 const TIMES: u32 = 1_000_000;
+const STARS: u32 = 100_000;
 const ROOT: u64 = 1 << 24;
 const WIDTH: usize = 40;
 
@@ -187,6 +188,47 @@ impl Rows {
         }
     }
 
+    fn mark_star(&self, pass: &mut Pass) {
+        let root = pass.pinned.1;
+        pass.marked.push(root as u32);
+        let links = (self.cell(root, 0).load(SeqCst) / 4) as usize;
+        for place in 1..links + 1 {
+            let leaf = self.cell(root, place).load(SeqCst);
+            pass.marked.push(leaf as u32);
+        }
+    }
+
+    fn write_star(&self, pass: &mut Pass, leaves: usize) -> usize {
+        let root = pass.fresh[0] as usize;
+        for k in 0..leaves {
+            let leaf = pass.fresh[k + 1] as usize;
+            self.cell(leaf, 0).store(0, SeqCst);
+            self.cell(root, k + 1).store(leaf as u64, SeqCst);
+        }
+        self.cell(root, 0).store(4 * leaves as u64, SeqCst);
+        root
+    }
+
+    fn publish_star(&self, pass: &mut Pass, count: usize) -> bool {
+        self.pin(pass);
+        self.mark_star(pass);
+        let root = self.write_star(pass, count - 1);
+        let won = self.publish(pass, root);
+        self.unpin(pass);
+        won
+    }
+
+    fn put_stars(&self, pass: &mut Pass, count: usize) {
+        for _ in 0..STARS {
+            self.take_rows(pass, count.saturating_sub(pass.fresh.len()) as u32);
+            if pass.fresh.len() < count {
+                continue;
+            }
+            black_box(self.publish_star(pass, count));
+            self.tidy(pass);
+        }
+    }
+
     fn give_one(&self, pass: &mut Pass, k: usize) {
         if k < pass.fresh.len() {
             let row = pass.fresh[k] as usize;
@@ -276,6 +318,16 @@ fn publications(fresh: u32) {
     println!("{TIMES} publications by a pass with {fresh} fresh rows: {} : ", clock.elapsed().as_micros());
 }
 
+fn star_publications(count: u32) {
+    let (rows, mut passes) = Rows::start(black_box(128), black_box(1));
+    let pass = &mut passes[0];
+    let clock = Instant::now();
+    rows.put_stars(pass, black_box(count as usize));
+    let time = clock.elapsed().as_micros();
+    let word = rows.read_current(pass, 0);
+    println!("{STARS} publications of {count} fresh rows: {time} : {} {word}", pass.pinned.0);
+}
+
 fn main() {
     one_row();
     takes();
@@ -288,4 +340,7 @@ fn main() {
     publications(1);
     publications(10);
     publications(40);
+    star_publications(1);
+    star_publications(10);
+    star_publications(40);
 }
