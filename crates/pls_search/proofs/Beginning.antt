@@ -15,7 +15,7 @@ use Rattle.pls_problem.specs.declared.instance.Instance.{Instance}
 use Rattle.pls_search.specs.Neighbours.{IsPointOf}
 use Rattle.pls_search.specs.Workers.{task_of, Hands, Did, StandsFor, IsNewWorker}
 use Rattle.pls_search.specs.Steps.{UnlessMemory, Submits, SubmitsAll, SubmitsStarts}
-use Rattle.pls_search.proofs.Moments.{SameCounts-self, Did-nothing, Did-then, Did-after}
+use Rattle.pls_search.proofs.Moments.{Did-none, Did-then, Did-after}
 use Rattle.pls_search.proofs.Neighbourhoods.{submissions-calls}
 
 -- since a moment these points were submitted
@@ -23,10 +23,10 @@ pub record SoFar (i : Instance) (points : List Point) (before now : Hands) : Typ
   pub entries : List Entry
   pub calls : map (λ e. e.call) entries ≡ calls_for points
   pub each : Every (IsPointOf i) points
-  pub did : Did entries [] 0 0 0 before now
+  pub did : Did entries [] 0 0 0 0 0 before now
 
 pub SoFar-none : (i : Instance) (h : Hands) → SoFar i [] h h
-SoFar-none i h = record { entries = []; calls = refl; each = tt; did = Did-nothing h h refl refl (SameCounts-self h.tally) }
+SoFar-none i h = record { entries = []; calls = refl; each = tt; did = Did-none h }
 
 -- one more
 pub SoFar-more :
@@ -39,7 +39,7 @@ SoFar-more i points p before now after so_far is (e, call, did) = record {
       ∙ (ap (λ (cs : List Call). cs ++ e.call ∷ []) so_far.calls
       ∙ (ap (λ (c : Call). calls_for points ++ c ∷ []) call ∙ sym (map-append Update points (p ∷ []))));
   each = Every-append (IsPointOf i) points (p ∷ []) so_far.each (is, tt);
-  did = Did-then refl refl refl refl refl so_far.did did;
+  did = Did-then refl refl refl refl refl refl refl so_far.did did;
 }
 
 -- as many entries as points
@@ -49,7 +49,7 @@ length-SoFar i points before now so_far =
 
 module _ (i : Instance) (all : List Point) (k : ℕ) (before now : Hands) (so_far : SoFar i (take k all) before now) where
   submits :
-      (full : Bool) (after : Hands) → k ≤ length all → (k == length all) ≡ not full → Did [] [] 0 0 0 now after → SubmitsAll i all before after false full
+      (full : Bool) (after : Hands) → k ≤ length all → (k == length all) ≡ not full → Did [] [] 0 0 0 0 0 now after → SubmitsAll i all before after false full
   submits full after within ends did =
       let long : length so_far.entries ≡ k = length-SoFar i (take k all) before now so_far ∙ length-take-le k all within in
       record {
@@ -62,7 +62,7 @@ module _ (i : Instance) (all : List Point) (k : ℕ) (before now : Hands) (so_fa
       }
 
   pub SubmitsAll-whole : k ≡ length all → SubmitsAll i all before now false false
-  SubmitsAll-whole is = submits false now (omega arith) (eq-eqb k (length all) is) (Did-nothing now now refl refl (SameCounts-self now.tally))
+  SubmitsAll-whole is = submits false now (omega arith) (eq-eqb k (length all) is) (Did-none now)
 
   pub SubmitsAll-cut :
       (p : Point) (after : Hands) (end : Result Unit Cause) (cause : Cause) → k < length all → end ≡ Err cause → UnlessMemory end (Submits p now after)
@@ -74,7 +74,7 @@ module _ (i : Instance) (all : List Point) (k : ℕ) (before now : Hands) (so_fa
 
 -- a new worker that submitted starts
 pub StandsFor-started :
-    (i : Instance) (es : List Entry) (first now : Hands) → IsNewWorker first → Did es [] 0 0 0 first now → Every (IsPointOf i) (submissions es)
+    (i : Instance) (es : List Entry) (first now : Hands) → IsNewWorker first → Did es [] 0 0 0 0 0 first now → Every (IsPointOf i) (submissions es)
     → StandsFor i false false now (record { starts = es; explorations = []; last = [] })
 StandsFor-started i es first now new did each =
     let all : es ++ [] ≡ es = append-nil es in
@@ -96,12 +96,16 @@ StandsFor-started i es first now new did each =
         evaluated_most = omega (arith, did.goes_are, new.goes);
         drawn = omega (arith, did.draws_are, did.goes_are, new.draws, new.goes);
       };
+      counts = record {
+        explored_are = omega (arith, did.explored_are, new.explored);
+        evaluated_are = omega (arith, did.evaluated_are, new.evaluated);
+      };
     }
 
 -- what was submitted begins a run; halting changes nothing of it
 pub SubmitsStarts-by_end :
     (i : Instance) (starts : List Point) (before between after : Hands) (end : Result Unit Cause)
-    → UnlessMemory end (SubmitsAll i starts before between) → Did [] [] 0 0 0 between after → UnlessMemory end (SubmitsStarts i starts before after)
+    → UnlessMemory end (SubmitsAll i starts before between) → Did [] [] 0 0 0 0 0 between after → UnlessMemory end (SubmitsStarts i starts before after)
 SubmitsStarts-by_end i starts before between after end submits did = by_cause end submits
   where
     begun : (spent full : Bool) → SubmitsAll i starts before between spent full → SubmitsStarts i starts before after spent full

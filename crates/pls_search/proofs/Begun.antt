@@ -9,14 +9,15 @@ use Rattle.pls_archive.specs.declared.call.Call.TheVariants.{Update}
 use Rattle.pls_archive.specs.declared.call.Reply.{Reply}
 use Rattle.pls_archive.specs.declared.call.Entry.{Entry}
 use Rattle.pls_archive.specs.SearchRun.{SubmitsFirst, missing}
-use Rattle.pls_archive.specs.Explorations.{CallerRun}
+use Rattle.pls_archive.specs.Explorations.{CallerRun, tasks}
 use Rattle.pls_archive.specs.View.{View, new_view, IsConsistent}
 use Rattle.pls_pool.specs.declared.cause.Cause.{Cause}
 use Rattle.pls_pool.specs.declared.cause.Cause.TheVariants.{Spent, Full, Memory}
 use Rattle.pls_pool.specs.declared.tally.Tally.{Tally}
 use Rattle.pls_problem.specs.declared.instance.Instance.{Instance}
 use Rattle.pls_search.specs.Crews.{AreSeated}
-use Rattle.pls_search.specs.Workers.{Hands, Work, GoesOn, IsNewWorker, StandsFor, work_of}
+use Rattle.pls_search.specs.declared.task.Task.{Task as Waiting}
+use Rattle.pls_search.specs.Workers.{task_of, Hands, Work, LinesUp, StaysInLine, GoesOn, IsNewWorker, StandsFor, work_of}
 use Rattle.pls_search.specs.Steps.{UnlessMemory, SubmitsStarts}
 use Rattle.pls_search.specs.Leaving.{OfTeam, Lacks, IsUnhalted, AreReady}
 use Rattle.pls_search.proofs.TeamJoins.{HasDone-stands, none_missing, team_begins}
@@ -66,6 +67,12 @@ fine u = Ok u
 not_full : (u : Unit {0}) → (fine u) ≡ Err Full → ⊥
 not_full u e = cc
 
+not_memory : (u : Unit {0}) → (fine u) ≡ Err Memory → ⊥
+not_memory u e = cc
+
+full_not_memory : failed Full ≡ Err Memory → ⊥
+full_not_memory e = cc
+
 pub unfull-begun : {A B : Type 0} (u : Unit {0}) (end : Result (Unit {0}) Cause) → end ≡ Ok u → A ↔ (B ⊎ (end ≡ Err Full)) → (B → ⊥) → A → ⊥
 unfull-begun {B = B} u end is full none a = by_case (full.0 a)
   where
@@ -75,30 +82,37 @@ unfull-begun {B = B} u end is full none a = by_case (full.0 a)
 
 module _ (reply : List Point → Call → Reply) (i : Instance) (starts : List Point) (started : ℕ) (before after : Hands) (new : IsNewWorker before)
     (seen : before.view ≡ new_view 0) where
+  -- the tasks that its starts made wait in order
+  lined_up : before.account.waiting ≡ [] → StaysInLine before after → LinesUp [] after
+  lined_up empty stays = stays [] (ap tasks new.own ∙ ap (λ (ts : List Waiting). map task_of ts) (sym empty))
+
   -- the worker alone is a team
   team_of_one :
       {P : Work → List Work → Type 0} (r : CallerRun) → SubmitsFirst starts r.starts → r.explorations ≡ [] → StandsFor i false false after r → (causes : List Cause)
-      → GoesOn reply started causes before after → P (work_of r false false after) [] → OfTeam i starts 1 P after
-  team_of_one r first none stands causes goes why =
+      → GoesOn reply started causes before after → P (work_of r false false after) []
+      → (after.tally.seats ≡ 1 → LinesUp [] after) → OfTeam i starts 1 P after
+  team_of_one r first none stands causes goes why line =
       let w = work_of r false false after in
       record {
         first = w;
         others = [];
         team =
             team_begins i starts w after (HasDone-stands i false false after r stands) first none
-            (goes.number ∙ ap (λ (v : View). v.number) seen) (goes.others ∙ ap (λ (v : View). v.others) seen);
+            (goes.number ∙ ap (λ (v : View). v.number) seen) (goes.others ∙ ap (λ (v : View). v.others) seen) line;
         all = refl;
         why = why;
       }
 
   -- all starts were submitted
   pub ready : (u : Unit {0}) (end : Result (Unit {0}) Cause) → end ≡ Ok u → UnlessMemory end (SubmitsStarts i starts before after)
-      → GoesOn reply started [] before after → IsUnhalted before → AreReady i starts 1 after
-  ready u end is submits goes unhalted =
+      → GoesOn reply started [] before after → IsUnhalted before → before.account.waiting ≡ []
+      → (end ≢ Err Memory → after.tally.seats ≡ 1 → StaysInLine before after) → AreReady i starts 1 after
+  ready u end is submits goes unhalted empty stays =
       let submitted : SubmitsStarts i starts before after false false = subst (λ e. UnlessMemory e (SubmitsStarts i starts before after)) is submits in
       let (r, first, none, all, stands) = submitted.begins new in
       team_of_one r first none stands [] goes
       (none_missing starts r all, refl, refl, goes.halts ∙ ap (λ (causes : List Cause). causes ++ []) unhalted)
+      (λ one. lined_up empty (stays (λ e. not_memory u (sym is ∙ e)) one))
 
   -- no draw was made, and no want of room was shown
   pub fresh-begun : (u : Unit {0}) (end : Result (Unit {0}) Cause) → end ≡ Ok u → UnlessMemory end (SubmitsStarts i starts before after) → after.tally.draws ≡ after.tally.goes
@@ -118,8 +132,10 @@ module _ (reply : List Point → Call → Reply) (i : Instance) (starts : List P
         by_cause Memory submits other = absurd (other refl)
 
     pub lacking : (causes : List Cause) → end ≡ Err Full → UnlessMemory end (SubmitsStarts i starts before after) → GoesOn reply started causes before after
+        → before.account.waiting ≡ [] → (end ≢ Err Memory → after.tally.seats ≡ 1 → StaysInLine before after)
         → OfTeam i starts 1 (Lacks starts) after
-    lacking causes is submits goes =
+    lacking causes is submits goes empty stays =
         let submitted : SubmitsStarts i starts before after false true = subst (λ e. UnlessMemory e (SubmitsStarts i starts before after)) is submits in
         let (r, first, none, fewer, stands) = submitted.begins new in
         team_of_one r first none stands causes goes (some_missing starts r first fewer)
+        (λ one. lined_up empty (stays (λ e. full_not_memory (sym is ∙ e)) one))

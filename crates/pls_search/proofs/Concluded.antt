@@ -1,5 +1,5 @@
 -- What the last look at the members concludes: the run that the joined pass holds, and how it ends.
-use Rattle.std.proofs.Common.{◌≡◌, ◌⊎◌, ℕ, ◌+◌, ◌<◌, ◌≤◌, min, Option, None, Some, MatchOption, List, [], ◌∷◌, ◌++◌, length, map, refl, ap, ap₂, sym, subst, ◌∙◌, arith, inl, inr, Result, Ok, Err}
+use Rattle.std.proofs.Common.{◌≡◌, ◌⊎◌, ℕ, ◌+◌, ◌^◌, ◌<◌, ◌≤◌, min, Option, None, Some, MatchOption, List, [], ◌∷◌, ◌++◌, length, map, refl, ap, ap₂, sym, subst, ◌∙◌, arith, inl, inr, Result, Ok, Err}
 use Rattle.std.specs.List.{flat_map}
 use Rattle.std.proofs.lemmas.List.{append-nil}
 use Rattle.pls_archive.specs.declared.point.Point.{Point}
@@ -31,12 +31,12 @@ use Rattle.pls_search.specs.declared.end.End.TheVariants.{Closed, Stopped, Full}
 use Rattle.pls_search.specs.Neighbours.{neighbours_of, IsPointOf}
 use Rattle.pls_search.specs.Workers.{task_of, Hands, hands, Work, IsWork}
 use Rattle.pls_search.specs.Teams.{runs_of, fulls, spents, ending_with, IsTeam, IsAccounted, IsSmall}
-use Rattle.pls_search.specs.Outcomes.{EndsAs, HoldsRun, Tells}
+use Rattle.pls_search.specs.Outcomes.{EndsAs, Finds, Tells}
 use Rattle.pls_search.specs.Leaving.{OfTeam, IsIdle, Ended}
 use Rattle.pls_search.proofs.Totals.{Every-mapped}
 use Rattle.pls_search.proofs.TeamRuns.{entries-ending, lists-ended, callers-ended, is_search_run}
 use Rattle.pls_search.proofs.TeamEnds.{cut_short, stopped, closed}
-use Rattle.pls_search.proofs.TeamCounts.{accepted-observed, few_accepted}
+use Rattle.pls_search.proofs.TeamCounts.{accepted-observed, few_accepted, HasCounts-team}
 
 -- why a team's search ends so
 abbrev Decides : List Point → Hands → Work → List Work → End → Type 0
@@ -44,6 +44,11 @@ Decides starts h first others Closed =
     (missing starts first.run ≡ []) × (fulls (first ∷ others) ≡ 0) × (spents (first ∷ others) ≡ 0) × IsIdle h
 Decides starts h first others Stopped = (missing starts first.run ≡ []) × (fulls (first ∷ others) ≡ 0) × (0 < spents (first ∷ others))
 Decides starts h first others Full = (0 < length (missing starts first.run)) ⊎ (0 < fulls (first ∷ others))
+
+-- a worker that is the only one
+only : (first : Work) (others : List Work) → length (first ∷ others) ≡ 1 → others ≡ []
+only first [] one = refl
+only first (w ∷ ws) one = absurd (omega (arith, one))
 
 module _ (i : Instance) (starts : List Point) (first : Work) (others : List Work) (h : Hands) (team : IsTeam i starts first others h) where
   -- the last question submits nothing
@@ -60,7 +65,7 @@ module _ (i : Instance) (starts : List Point) (first : Work) (others : List Work
       (Every-mapped (λ (r : CallerRun). Every (IsPointOf i) (submissions (entries_of_run r))) (λ w. w.run) others
       (Every-map (IsWork i) (λ w. Every (IsPointOf i) (submissions (entries_of_run w.run))) (λ w is. is.points) others team.works.1)))
 
-  module _ (moves : ℕ) (accounted : IsAccounted moves h) (small : IsSmall starts moves) where
+  module _ (moves : ℕ) (accounted : IsAccounted moves h) (small : IsSmall starts moves) (few_explored : h.explored < 2 ^ 64) (few_evaluated : h.evaluated < 2 ^ 64) where
     ends : (e : Entry) → e.call ≡ Snapshot → (end : End) → Decides starts h first others end
         → EndsAs (neighbours_of i) starts moves end (ending_with e first.run) (runs_of others)
     ends e asks Closed (started, unfull, unspent, idle) = closed i starts first others h team e asks moves accounted started unfull unspent small idle
@@ -69,32 +74,34 @@ module _ (i : Instance) (starts : List Point) (first : Work) (others : List Work
 
     concludes :
         (front : List Point → List Point) (reply : List Point → Call → Reply) → IsRule front reply
-        → (started : ℕ) → started ≡ length (first ∷ others) → (members : List Point) (stamp : ℕ) (after : View)
+        → (started : ℕ) → started ≡ length (first ∷ others) → h.tally.seats ≡ started → (members : List Point) (stamp : ℕ) (after : View)
         → Answers reply started h.view Snapshot (Points members) stamp after → (end : End) → Decides starts h first others end
-        → HoldsRun reply i starts moves started after end members
-    concludes front reply rule started enough members stamp after answers end decides =
-        subst (λ n. HoldsRun reply i starts moves n after end members) (sym enough)
+        → Finds reply i starts moves started after end members h.explored h.evaluated stamp
+    concludes front reply rule started enough even members stamp after answers end decides =
+        subst (λ n. Finds reply i starts moves n after end members h.explored h.evaluated stamp) (sym enough)
         (concluded (subst (λ n. Answers reply n h.view Snapshot (Points members) stamp after) enough answers))
       where
         concluded : Answers reply (length (first ∷ others)) h.view Snapshot (Points members) stamp after
-            → HoldsRun reply i starts moves (length (first ∷ others)) after end members
+            → Finds reply i starts moves (length (first ∷ others)) after end members h.explored h.evaluated stamp
         concluded answers =
             let e : Entry = record { caller = h.view.number; stamp = stamp; call = Snapshot; reply = Points members } in
             let run = is_search_run i starts first others h team moves accounted front reply rule after e refl answers.extends answers.consistent in
-            record {
-              first = ending_with e first.run;
-              others = runs_of others;
-              consistent = answers.consistent;
-              callers = callers-ended i starts first others h team moves accounted front reply rule after e refl answers.extends answers.consistent;
-              lists = lists-ended i starts first others h team moves accounted front reply rule after e refl answers.extends answers.consistent;
-              run = run.0;
-              ends = ends e refl end decides;
-              points = points-ended e refl;
-              told = run.1;
-              few =
-                  let count = accepted-observed reply (length after.observed) (ending_with e first.run ∷ runs_of others) run.0.consistent in
-                  let few = few_accepted i starts first others h team moves accounted e refl small in omega arith;
-            }
+            let count = accepted-observed reply (length after.observed) (ending_with e first.run ∷ runs_of others) run.0.consistent in (
+              record {
+                first = ending_with e first.run;
+                others = runs_of others;
+                consistent = answers.consistent;
+                callers = callers-ended i starts first others h team moves accounted front reply rule after e refl answers.extends answers.consistent;
+                lists = lists-ended i starts first others h team moves accounted front reply rule after e refl answers.extends answers.consistent;
+                run = run.0;
+                ends = ends e refl end decides;
+                points = points-ended e refl;
+                told = run.1;
+                few = let few = few_accepted i starts first others h team moves accounted e refl small in omega arith;
+                in_order = λ one. (team.in_turn (even ∙ (enough ∙ one)) (only first others one)).0;
+              },
+              HasCounts-team i starts first others h team moves accounted e refl small few_explored few_evaluated run.0.of_accepted stamp (answers.extends.stamped ∙ sym count),
+            )
 
 -- ---- so it is however the workers left, unless memory ran out
 
@@ -108,10 +115,10 @@ module _ (seats : ℕ) (before after : Account Waiting) where
       omega (arith, takes.put p, takes.taken p, among (ap length takes.same_numbers ∙ holds) p)
 
   pub accounted :
-      (moves : ℕ) (view : View) (t u : Tally) (taken : Option Waiting) → MatchOption taken (FindsNone seats before after) (λ x. Takes seats x before after)
+      (moves : ℕ) (view : View) (t u : Tally) (explored evaluated : ℕ) (taken : Option Waiting) → MatchOption taken (FindsNone seats before after) (λ x. Takes seats x before after)
       → (HoldsAllSeats seats after → IsAmong after) → HoldsAllSeats seats before → u ≡ finding u.found t → LearnsCauses u.found u → HoldsAll t
-      → t.moves ≡ moves → IsAccounted moves (hands view before t)
-  accounted moves view t u taken takes among holds looked learns all budget =
+      → t.moves ≡ moves → IsAccounted moves (hands view before t explored evaluated)
+  accounted moves view t u explored evaluated taken takes among holds looked learns all budget =
       let share = ap (λ (v : Tally). v.share) looked in
       let seats = ap (λ (v : Tally). v.seats) looked in
       let went = (learns (share ∙ (all ∙ sym seats))).2 in
@@ -125,18 +132,19 @@ module _ (seats : ℕ) (before after : Account Waiting) where
       }
 
 module _ (i : Instance) (starts : List Point) (moves workers : ℕ) (h : Hands) (accounted : IsAccounted moves h) (small : IsSmall starts moves)
+    (few_explored : h.explored < 2 ^ 64) (few_evaluated : h.evaluated < 2 ^ 64)
     (front : List Point → List Point) (reply : List Point → Call → Reply) (rule : IsRule front reply) (members : List Point) (stamp : ℕ) (after : View)
-    (answers : Answers reply workers h.view Snapshot (Points members) stamp after) where
+    (answers : Answers reply workers h.view Snapshot (Points members) stamp after) (even : h.tally.seats ≡ workers) where
   concludes_so :
       {P : Work → List Work → Type 0} (end : End) → OfTeam i starts workers P h → ((first : Work) (others : List Work) → P first others → Decides starts h first others end)
-      → HoldsRun reply i starts moves workers after end members
+      → Finds reply i starts moves workers after end members h.explored h.evaluated stamp
   concludes_so end of decides =
-      concludes i starts of.first of.others h of.team moves accounted small front reply rule workers of.all members stamp after answers end
+      concludes i starts of.first of.others h of.team moves accounted small few_explored few_evaluated front reply rule workers of.all even members stamp after answers end
       (decides of.first of.others of.why)
 
-  pub ended : (left : Result (Unit {0}) Cause) (end : End) → Tells left end → Ended i starts workers left h → HoldsRun reply i starts moves workers after end members
-  ended (Ok u) end is of = subst (λ e. HoldsRun reply i starts moves workers after e members) (sym is) (concludes_so Closed of (λ first others why. why))
-  ended (Err causes.Spent) end is of = subst (λ e. HoldsRun reply i starts moves workers after e members) (sym is) (concludes_so Stopped of (λ first others why. why))
-  ended (Err causes.Full) end is (inl of) = subst (λ e. HoldsRun reply i starts moves workers after e members) (sym is) (concludes_so Full of (λ first others why. inr why.1))
-  ended (Err causes.Full) end is (inr of) = subst (λ e. HoldsRun reply i starts moves workers after e members) (sym is) (concludes_so Full of (λ first others lacks. inl lacks))
+  pub ended : (left : Result (Unit {0}) Cause) (end : End) → Tells left end → Ended i starts workers left h → Finds reply i starts moves workers after end members h.explored h.evaluated stamp
+  ended (Ok u) end is of = subst (λ e. Finds reply i starts moves workers after e members h.explored h.evaluated stamp) (sym is) (concludes_so Closed of (λ first others why. why))
+  ended (Err causes.Spent) end is of = subst (λ e. Finds reply i starts moves workers after e members h.explored h.evaluated stamp) (sym is) (concludes_so Stopped of (λ first others why. why))
+  ended (Err causes.Full) end is (inl of) = subst (λ e. Finds reply i starts moves workers after e members h.explored h.evaluated stamp) (sym is) (concludes_so Full of (λ first others why. inr why.1))
+  ended (Err causes.Full) end is (inr of) = subst (λ e. Finds reply i starts moves workers after e members h.explored h.evaluated stamp) (sym is) (concludes_so Full of (λ first others lacks. inl lacks))
   ended (Err causes.Memory) end is of = absurd is

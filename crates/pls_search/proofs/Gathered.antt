@@ -19,8 +19,9 @@ use Rattle.pls_search.proofs.TeamJoins.{team_joins}
 
 -- a seat whose account and tally are new, and its pass
 pub IsNewWorker-made :
-    (h : Hands) (number seat moves seats : ℕ) → h.view ≡ new_view number → IsNew seat h.account → h.tally ≡ started moves seats 1 → IsNewWorker h
-IsNewWorker-made h number seat moves seats view new tally = record {
+    (h : Hands) (number seat moves seats : ℕ) → h.view ≡ new_view number → IsNew seat h.account → h.tally ≡ started moves seats 1
+    → h.explored ≡ 0 → h.evaluated ≡ 0 → IsNewWorker h
+IsNewWorker-made h number seat moves seats view new tally explored evaluated = record {
   own = ap (λ (v : View). v.own) view;
   put = new.put;
   taken = new.taken;
@@ -28,6 +29,8 @@ IsNewWorker-made h number seat moves seats view new tally = record {
   done = ap (λ (t : Tally). t.done) tally;
   draws = ap (λ (t : Tally). t.draws) tally;
   goes = ap (λ (t : Tally). t.goes) tally;
+  explored = explored;
+  evaluated = evaluated;
 }
 
 -- ---- the numbers of joined seats

@@ -1,4 +1,5 @@
 pub mod Moments
+pub mod Counting
 pub mod Neighbourhoods
 pub mod Turns
 pub mod Lining

@@ -26,7 +26,7 @@ use Rattle.pls_search.proofs.Moments.{SameCounts, Did-nothing, Did-then, Did-aft
 use Rattle.pls_search.proofs.Turns.{ExploresOn-taken, ExploresOn-explored, ExploresOn-then}
 
 -- explorations in order, after others
-InOrder-append :
+pub InOrder-append :
     (history : List Entry) (k n : ℕ) (xs ys : List Exploration) → n ≡ k + length xs → InOrder history k xs
     → InOrder (history ++ flat_map entries_of xs) n ys → InOrder history k (xs ++ ys)
 InOrder-append history k n [] ys count first rest =
@@ -45,15 +45,15 @@ at_place (x ∷ xs) y ys = at_place xs y ys
 -- nothing was done at the archive and at the pool
 pub ExploresInLine-idle :
     (i : Instance) (before after : Hands) → after.view.own ≡ before.view.own → after.account ≡ before.account → SameCounts before.tally after.tally
-    → ExploresInLine i before after false false
+    → after.explored ≡ before.explored → after.evaluated ≡ before.evaluated → ExploresInLine i before after false false
 unfolding ExploresOn-taken
-ExploresInLine-idle i before after own account counts = record {
-  on = ExploresOn-taken i before after [] (Did-nothing before after own account counts);
-  in_order = λ explored lines points. (
+ExploresInLine-idle i before after own account counts explored evaluated = record {
+  on = ExploresOn-taken i before after [] (Did-nothing before after own account counts explored evaluated);
+  in_order = λ so_far lines points. (
     tt,
     ap tasks own
-        ∙ (lines ∙ (ap (λ (a : Account Waiting). explored ++ map task_of a.waiting) (sym account)
-        ∙ ap (λ (ts : List Task). ts ++ map task_of after.account.waiting) (sym (append-nil explored)))),
+        ∙ (lines ∙ (ap (λ (a : Account Waiting). so_far ++ map task_of a.waiting) (sym account)
+        ∙ ap (λ (ts : List Task). ts ++ map task_of after.account.waiting) (sym (append-nil so_far)))),
   );
 }
 
@@ -90,7 +90,7 @@ is_of-true i p is = and_from _ _ is.feasible (eq-eqb (length p.value) _ is.parts
 -- the first task that waited was taken, and then taken up
 module _
     (i : Instance) (task : Waiting) (before between after : Hands) (own : between.view.own ≡ before.view.own)
-    (took : Did [] (task_of task ∷ []) 0 0 0 before between) (waits : before.account.waiting ≡ task ∷ between.account.waiting) where
+    (took : Did [] (task_of task ∷ []) 0 0 0 0 0 before between) (waits : before.account.waiting ≡ task ∷ between.account.waiting) where
   abbrev t : Task
   t = task_of task
 
@@ -105,14 +105,14 @@ module _
     where
       by_way :
           ExploresTask i t (one_if (not (spent || full))) between after spent full
-          ⊎ ((is_of i t.point ≡ false) × (spent ≡ false) × (full ≡ false) × Did [] [] 0 0 0 between after)
+          ⊎ ((is_of i t.point ≡ false) × (spent ≡ false) × (full ≡ false) × Did [] [] 0 0 0 0 0 between after)
           → ExploresInLine i before after spent full
       by_way (inl explores) =
           let x = explores.exploration in
           record {
             on =
                 ExploresOn-explored i before after x spent full explores.is explores.whole explores.each
-                (Did-then refl (ap (λ (u : Task). u ∷ []) explores.of) (omega arith) (omega arith) (omega arith) took explores.did);
+                (Did-then refl (ap (λ (u : Task). u ∷ []) explores.of) (omega arith) (omega arith) (omega arith) (omega arith) (omega arith) took explores.did);
             in_order = λ explored lines points.
                 let here = first_in_line explored lines in
                 let moved : LinesUp (explored ++ t ∷ []) between =

@@ -1,5 +1,5 @@
 -- What a worker did between two moments: by one call, and by steps one after the other.
-use Rattle.std.proofs.Common.{◌≡◌, ℕ, ◌+◌, List, [], ◌∷◌, ◌++◌, length, Result, Ok, Err, refl, ap, sym, ◌∙◌, append_assoc, arith, length-append}
+use Rattle.std.proofs.Common.{◌≡◌, ℕ, ◌+◌, ◌%◌, ◌^◌, List, [], ◌∷◌, ◌++◌, length, Result, Ok, Err, refl, ap, sym, ◌∙◌, append_assoc, arith, length-append}
 use Rattle.std.proofs.lemmas.List.{append-nil}
 use Rattle.pls_archive.specs.declared.point.Point.{Point}
 use Rattle.pls_archive.specs.declared.call.Call.{Call}
@@ -15,7 +15,7 @@ use Rattle.pls_pool.specs.Tallies.{finding}
 use Rattle.pls_pool.specs.declared.cause.Cause.{Cause}
 use Rattle.pls_pool.specs.declared.tally.Tally.{Tally}
 use Rattle.pls_search.specs.declared.task.Task.{Task as Waiting}
-use Rattle.pls_search.specs.Workers.{task_of, Hands, Did, GoesOn}
+use Rattle.pls_search.specs.Workers.{task_of, Hands, RisesBy, Did, GoesOn}
 use Rattle.pls_search.specs.Steps.{Halts}
 
 -- the counts at the desk stay
@@ -28,11 +28,19 @@ pub record SameCounts (s t : Tally) : Type 0 where
 pub SameCounts-self : (t : Tally) → SameCounts t t
 SameCounts-self t = record { opened = refl; draws = refl; goes = refl; done = refl }
 
+-- a count that stays, and one that rises twice
+RisesBy-none : (before after : ℕ) → after ≡ before → RisesBy 0 before after
+RisesBy-none before after same = omega (arith, same)
+
+RisesBy-then : (n m sum first between last : ℕ) → sum ≡ n + m → RisesBy n first between → RisesBy m between last → RisesBy sum first last
+RisesBy-then n m sum first between last is one two = omega (arith, is, one, two)
+
 -- entries that make no task, with nothing put or taken and no count changed
 pub Did-entries :
     (es : List Entry) (before after : Hands) → tasks es ≡ [] → after.view.own ≡ before.view.own ++ es → after.account ≡ before.account
-    → SameCounts before.tally after.tally → Did es [] 0 0 0 before after
-Did-entries es before after none own same counts =
+    → SameCounts before.tally after.tally → after.explored ≡ before.explored → after.evaluated ≡ before.evaluated
+    → Did es [] 0 0 0 0 0 before after
+Did-entries es before after none own same counts explored evaluated =
     let no_task = ap length none in
     record {
       own = own;
@@ -45,19 +53,26 @@ Did-entries es before after none own same counts =
       draws_are = omega (arith, counts.draws);
       goes_are = omega (arith, counts.goes);
       done_are = omega (arith, counts.done);
+      explored_are = RisesBy-none before.explored after.explored explored;
+      evaluated_are = RisesBy-none before.evaluated after.evaluated evaluated;
     }
 
 pub Did-nothing :
     (before after : Hands) → after.view.own ≡ before.view.own → after.account ≡ before.account → SameCounts before.tally after.tally
-    → Did [] [] 0 0 0 before after
-Did-nothing before after own same counts = Did-entries [] before after refl (own ∙ sym (append-nil before.view.own)) same counts
+    → after.explored ≡ before.explored → after.evaluated ≡ before.evaluated → Did [] [] 0 0 0 0 0 before after
+Did-nothing before after own same counts explored evaluated =
+    Did-entries [] before after refl (own ∙ sym (append-nil before.view.own)) same counts explored evaluated
+
+-- the same hands
+pub Did-none : (h : Hands) → Did [] [] 0 0 0 0 0 h h
+Did-none h = Did-nothing h h refl refl (SameCounts-self h.tally) refl refl
 
 -- one step after another
 pub Did-then :
-    {es fs all : List Entry} {ts us both : List Task} {d d2 ds g g2 gs k k2 ks : ℕ} {first between last : Hands}
-    → all ≡ es ++ fs → both ≡ ts ++ us → ds ≡ d + d2 → gs ≡ g + g2 → ks ≡ k + k2
-    → Did es ts d g k first between → Did fs us d2 g2 k2 between last → Did all both ds gs ks first last
-Did-then {es = es} {fs = fs} {ts = ts} {us = us} {first = first} entries both draws goes done one two =
+    {es fs all : List Entry} {ts us both : List Task} {d d2 ds g g2 gs k k2 ks x x2 xs n n2 ns : ℕ} {first between last : Hands}
+    → all ≡ es ++ fs → both ≡ ts ++ us → ds ≡ d + d2 → gs ≡ g + g2 → ks ≡ k + k2 → xs ≡ x + x2 → ns ≡ n + n2
+    → Did es ts d g k x n first between → Did fs us d2 g2 k2 x2 n2 between last → Did all both ds gs ks xs ns first last
+Did-then {es = es} {fs = fs} {ts = ts} {us = us} {x = x} {x2 = x2} {xs = xs} {n = n} {n2 = n2} {ns = ns} {first = first} {between = between} {last = last} entries both draws goes done explored evaluated one two =
     let made = ap tasks entries ∙ tasks-append es fs in
     record {
       own = two.own ∙ (ap (λ (h : List Entry). h ++ fs) one.own ∙ (append_assoc first.view.own es fs ∙ ap (λ (h : List Entry). first.view.own ++ h) (sym entries)));
@@ -71,19 +86,22 @@ Did-then {es = es} {fs = fs} {ts = ts} {us = us} {first = first} entries both dr
       draws_are = omega (arith, one.draws_are, two.draws_are, draws);
       goes_are = omega (arith, one.goes_are, two.goes_are, goes);
       done_are = omega (arith, one.done_are, two.done_are, done);
+      explored_are = RisesBy-then x x2 xs first.explored between.explored last.explored explored one.explored_are two.explored_are;
+      evaluated_are = RisesBy-then n n2 ns first.evaluated between.evaluated last.evaluated evaluated one.evaluated_are two.evaluated_are;
     }
 
 -- and one that did nothing
 pub Did-after :
-    {es : List Entry} {ts : List Task} {d g k : ℕ} {first between last : Hands}
-    → Did es ts d g k first between → Did [] [] 0 0 0 between last → Did es ts d g k first last
-Did-after {es = es} {ts = ts} one two = Did-then (sym (append-nil es)) (sym (append-nil ts)) (omega arith) (omega arith) (omega arith) one two
+    {es : List Entry} {ts : List Task} {d g k x n : ℕ} {first between last : Hands}
+    → Did es ts d g k x n first between → Did [] [] 0 0 0 0 0 between last → Did es ts d g k x n first last
+Did-after {es = es} {ts = ts} one two = Did-then (sym (append-nil es)) (sym (append-nil ts)) (omega arith) (omega arith) (omega arith) (omega arith) (omega arith) one two
 
 -- a task was taken
 pub Did-took :
     (seats : ℕ) (task : Waiting) (before after : Hands) → after.view.own ≡ before.view.own → Takes seats task before.account after.account
-    → SameCounts before.tally after.tally → Did [] (task_of task ∷ []) 0 0 0 before after
-Did-took seats task before after own takes counts = record {
+    → SameCounts before.tally after.tally → after.explored ≡ before.explored → after.evaluated ≡ before.evaluated
+    → Did [] (task_of task ∷ []) 0 0 0 0 0 before after
+Did-took seats task before after own takes counts explored evaluated = record {
   own = own ∙ sym (append-nil before.view.own);
   put = λ test. omega (arith, takes.put (λ t. test (task_of t)));
   taken = λ test. omega (arith, takes.taken (λ t. test (task_of t)));
@@ -91,6 +109,22 @@ Did-took seats task before after own takes counts = record {
   draws_are = omega (arith, counts.draws);
   goes_are = omega (arith, counts.goes);
   done_are = omega (arith, counts.done);
+  explored_are = RisesBy-none before.explored after.explored explored;
+  evaluated_are = RisesBy-none before.evaluated after.evaluated evaluated;
+}
+
+-- an exploration was counted
+pub Did-counted : (h : Hands) (n : ℕ) → n ≡ (h.explored + 1) % 2 ^ 64 → Did [] [] 0 0 0 1 0 h (record h { explored = n })
+Did-counted h n is = record {
+  own = sym (append-nil h.view.own);
+  put = λ test. omega arith;
+  taken = λ test. omega arith;
+  opened = omega arith;
+  draws_are = omega arith;
+  goes_are = omega arith;
+  done_are = omega arith;
+  explored_are = omega (arith, is);
+  evaluated_are = omega arith;
 }
 
 -- a look at the desk

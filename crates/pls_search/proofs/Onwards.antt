@@ -18,6 +18,7 @@ use Rattle.pls_search.specs.Neighbours.{neighbours_of, IsPointOf}
 use Rattle.pls_search.specs.Workers.{Hands, Work, IsWork, Did, IsNewWorker, task_of}
 use Rattle.pls_search.specs.Teams.{AddsUp, HasDone}
 use Rattle.pls_search.specs.Onwards.{ExploresOn, grown}
+use Rattle.pls_search.proofs.Counting.{HasCounted-grown}
 use Rattle.pls_search.proofs.Turns.{uncut, OnlyLastIsCut-append}
 
 -- ---- the work of a worker that went on
@@ -94,6 +95,7 @@ module _ (i : Instance) (spent full : Bool) (before after : Hands) (on : Explore
     goes_on = done.goes_on;
     own = own-grown w done.goes_on done.own;
     adds_up = AddsUp-grown w [] done.adds_up;
+    counts = HasCounted-grown i spent full before after on w.run [] done.counts;
   }
 
 -- ---- a worker that has done nothing
@@ -134,5 +136,9 @@ HasDone-none i h new = record {
     done_are = new.done;
     draws_are = new.draws;
     goes_are = new.goes;
+  };
+  counts = record {
+    explored_are = omega (arith, new.explored);
+    evaluated_are = omega (arith, new.evaluated);
   };
 }

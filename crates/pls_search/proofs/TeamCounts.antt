@@ -1,30 +1,31 @@
 -- The counts of a team's search, and that each task that was taken is one of the instance.
-use Rattle.std.proofs.Common.{◌≡◌, ℕ, ◌+◌, ◌^◌, ◌≤◌, ◌==◌, Bool, true, false, ◌&&◌, not, List, [], ◌∷◌, ◌++◌, length, map, refl, ap, sym, ◌∙◌, arith}
+use Rattle.std.proofs.Common.{◌≡◌, ℕ, ◌+◌, ◌^◌, ◌<◌, ◌≤◌, ◌==◌, Bool, true, false, ◌&&◌, not, List, [], ◌∷◌, ◌++◌, length, map, refl, ap, sym, ◌∙◌, arith}
 use Rattle.std.specs.List.{flat_map}
 use Rattle.std.proofs.lemmas.Bool.{and_from, eq-eqb}
-use Rattle.std.proofs.lemmas.List.{length-append}
+use Rattle.std.proofs.lemmas.List.{length-map}
 use Rattle.pls_archive.specs.declared.point.Point.{Point}
 use Rattle.pls_archive.specs.declared.call.Call.{Call}
 use Rattle.pls_archive.specs.declared.call.Call.TheVariants.{Update, Covered, Member, Snapshot}
 use Rattle.pls_archive.specs.declared.call.Reply.{Reply}
 use Rattle.pls_archive.specs.declared.call.Reply.TheVariants.{Added, Refused, Yes, No, Points}
 use Rattle.pls_archive.specs.declared.call.Entry.{Entry}
-use Rattle.pls_archive.specs.Lists.{Every, total, how_many, one_if}
+use Rattle.pls_archive.specs.Lists.{Every, IsAmong, total, how_many, one_if}
 use Rattle.pls_archive.specs.Rule.{submitted_by, accepted_by, is_accepting}
 use Rattle.pls_archive.specs.History.{submissions, accepts, accepting}
 use Rattle.pls_archive.specs.Serialization.{AreSequentiallyConsistent}
-use Rattle.pls_archive.specs.Explorations.{Task, CallerRun, tasks_by, tasks, entries_of_run, tasks_of, is_whole, is_skipped, evaluated_in, explored, evaluated, accepted_count}
+use Rattle.pls_archive.specs.Explorations.{Task, CallerRun, tasks_by, tasks, entries_of_run, tasks_of, explorations_of, explored_tasks, explored, accepted_count}
 use Rattle.pls_archive.proofs.Counted.{counts_accepting}
 use Rattle.pls_archive.proofs.Every.{Every-append, Every-left, Every-right, Every-map, total-same, total-map, total-every, length-filter, length-flat_map}
 use Rattle.pls_problem.specs.Instance.{feasible, objectives}
 use Rattle.pls_problem.specs.declared.instance.Instance.{Instance}
 use Rattle.pls_search.specs.Neighbours.{neighbours_of, is_of, IsPointOf}
-use Rattle.pls_search.specs.Workers.{Hands, Work, IsWork, taken_by}
+use Rattle.pls_search.specs.Workers.{Hands, Work, IsWork, is_explored, taken_by}
 use Rattle.pls_search.specs.Teams.{runs_of, ending_with, IsTeam, IsAccounted, IsSmall}
-use Rattle.pls_search.proofs.Totals.{total-explorations}
+use Rattle.pls_search.specs.Outcomes.{HasCounts}
+use Rattle.pls_search.proofs.Counting.{HasCounted-exact}
+use Rattle.pls_search.proofs.Totals.{how_many-both, among-length}
 use Rattle.pls_search.proofs.TeamRuns.{tasks_of-ended, evaluated-within}
 use Rattle.pls_search.proofs.TeamBounds.{tasks-few}
-use Rattle.pls_search.proofs.TeamEnds.{opened-tasks}
 
 -- ---- what holds of all submissions holds of the tasks
 
@@ -127,17 +128,22 @@ module _ (i : Instance) (starts : List Point) (first : Work) (others : List Work
         let few_starts = small.few_starts in
         let few_moves = small.few_moves in omega arith
 
-  -- ---- the counts of the run are sums over the workers
-
-  pub explored-sum : (e : Entry) → explored (neighbours_of i) (ending_with e first.run ∷ runs_of others)
-      ≡ total (λ w. how_many (λ x. is_whole (neighbours_of i) x && not (is_skipped x)) w.run.explorations) all
-  explored-sum e = total-explorations all (λ x. one_if (is_whole (neighbours_of i) x && not (is_skipped x)))
-
-  pub evaluated-sum : (e : Entry) → evaluated (ending_with e first.run ∷ runs_of others) ≡ total (λ w. total evaluated_in w.run.explorations) all
-  evaluated-sum e = total-explorations all evaluated_in
-
-  -- as many points were accepted as tasks were opened
-  pub accepted-sum : (e : Entry) → e.call ≡ Snapshot → accepted_count (ending_with e first.run ∷ runs_of others) ≡ h.tally.opened
-  accepted-sum e asks =
-      ap length (tasks_of-ended i starts first others h team e asks)
-      ∙ (sym (opened-tasks i starts first others h team) ∙ sym team.adds_up.opened_are)
+    -- so the counts in the hands are exact
+    pub HasCounts-team :
+        (e : Entry) → e.call ≡ Snapshot → IsSmall starts moves → h.explored < 2 ^ 64 → h.evaluated < 2 ^ 64
+        → IsAmong (explored_tasks (ending_with e first.run ∷ runs_of others)) (tasks_of (ending_with e first.run ∷ runs_of others))
+        → (n : ℕ) → n ≡ accepted_count (ending_with e first.run ∷ runs_of others)
+        → HasCounts i (ending_with e first.run ∷ runs_of others) h.explored h.evaluated n
+    HasCounts-team e asks small few_explored few_evaluated among n accepted =
+        let runs = runs_of all in
+        let ended = ending_with e first.run ∷ runs_of others in
+        let few = few_accepted e asks small in
+        let tasks_few = among-length (explored_tasks ended) (tasks_of ended) among in
+        let tasks_are : length (explored_tasks ended) ≡ length (explorations_of runs) = length-map (explorations_of runs) (λ x. x.task) in
+        let wholes : explored (neighbours_of i) runs + how_many (λ x. not (is_explored i x)) (explorations_of runs) ≡ length (explorations_of runs) =
+        how_many-both (is_explored i) (explorations_of runs) in
+        let within = evaluated-within i starts first others h team moves accounted in
+        let few_moves = small.few_moves in
+        let exact =
+        HasCounted-exact i runs h team.counts few_explored few_evaluated (omega (arith, few, tasks_few, tasks_are, wholes)) (omega (arith, within, few_moves)) in
+        record { explored_are = exact.0; evaluated_are = exact.1; accepted_are = accepted }

@@ -1,16 +1,18 @@
 -- How a team comes to be: the first worker submits the starts, goes on, and takes over what another did.
 use Rattle.std.proofs.Common.{◌≡◌, ◌⊎◌, ℕ, suc, ◌+◌, ◌<◌, ◌≤◌, ◌==◌, min, Bool, true, false, not, List, [], ◌∷◌, ◌++◌, length, map, take, drop, refl, ap, ap₂, sym, subst, ◌∙◌, arith}
-use Rattle.std.specs.List.{range_with_len}
+use Rattle.std.specs.List.{range_with_len, flat_map}
 use Rattle.std.proofs.lemmas.Bool.{eqb-true}
-use Rattle.std.proofs.lemmas.List.{drop_all, length-append, map-append}
+use Rattle.std.proofs.lemmas.List.{append-nil, drop_all, length-append, length-map, map-append}
 use Rattle.pls_vectors.proofs.Ranges.{range_with_len-suc}
 use Rattle.pls_archive.specs.declared.point.Point.{Point}
 use Rattle.pls_archive.specs.declared.call.Call.{Call}
 use Rattle.pls_archive.specs.declared.call.Call.TheVariants.{Update}
 use Rattle.pls_archive.specs.declared.call.Entry.{Entry}
 use Rattle.pls_archive.specs.Lists.{Every, total}
-use Rattle.pls_archive.specs.Explorations.{Task, CallerRun, entries_of_run}
+use Rattle.pls_archive.specs.History.{submissions}
+use Rattle.pls_archive.specs.Explorations.{Task, Exploration, CallerRun, entries_of, entries_of_run}
 use Rattle.pls_archive.specs.SearchRun.{SubmitsFirst, OnlyExplores, missing}
+use Rattle.pls_archive.specs.Sequential.{InOrder}
 use Rattle.pls_archive.specs.View.{View, Joins as JoinsViews}
 use Rattle.pls_archive.proofs.Every.{Every-append}
 use Rattle.pls_pool.specs.Accounts.{Account, Joins as JoinsAccounts}
@@ -18,10 +20,13 @@ use Rattle.pls_pool.specs.Tallies.{joining}
 use Rattle.pls_pool.specs.declared.tally.Tally.{Tally}
 use Rattle.pls_problem.specs.declared.instance.Instance.{Instance}
 use Rattle.pls_search.specs.declared.task.Task.{Task as Waiting}
-use Rattle.pls_search.specs.Workers.{task_of, Hands, Work, IsWork, work_of, StandsFor}
+use Rattle.pls_search.specs.Neighbours.{IsPointOf}
+use Rattle.pls_search.specs.Workers.{task_of, Hands, Work, IsWork, LinesUp, HasCounted, work_of, StandsFor}
 use Rattle.pls_search.specs.Onwards.{ExploresOn, grown}
 use Rattle.pls_search.specs.Teams.{runs_of, AddsUp, HasDone, IsTeam, JoinsHands}
+use Rattle.pls_search.proofs.Counting.{HasCounted-grown, HasCounted-joined}
 use Rattle.pls_search.proofs.Onwards.{IsWork-grown, AddsUp-grown, own-grown}
+use Rattle.pls_search.proofs.Lining.{InOrder-append}
 use Rattle.pls_search.proofs.Totals.{total-one_more}
 
 -- what hands stand for is what was done
@@ -38,6 +43,7 @@ HasDone-stands i spent full h r stands = record {
     draws_are = omega arith;
     goes_are = omega arith;
   };
+  counts = stands.counts;
 }
 
 -- no start is missing where as many were submitted
@@ -48,8 +54,8 @@ module _ (i : Instance) (starts : List Point) where
   -- the first worker submitted the starts, or the first of them
   pub team_begins :
       (w : Work) (h : Hands) → HasDone i w h → SubmitsFirst starts w.run.starts → w.run.explorations ≡ [] → h.view.number ≡ 0 → h.view.others ≡ []
-      → IsTeam i starts w [] h
-  team_begins w h done begins none number others = record {
+      → (h.tally.seats ≡ 1 → LinesUp [] h) → IsTeam i starts w [] h
+  team_begins w h done begins none number others line = record {
     works = (done.work, tt);
     begins = begins;
     goes_on = done.goes_on;
@@ -60,14 +66,20 @@ module _ (i : Instance) (starts : List Point) where
     callers = ap (map (λ (list : ℕ × List Entry). list.0)) others;
     lists = ap (map (λ (list : ℕ × List Entry). list.1)) others;
     adds_up = done.adds_up;
+    counts = done.counts;
+    in_turn = λ one alone.
+        subst (λ (xs : List Exploration). InOrder w.run.starts 0 xs × LinesUp (map (λ x. x.task) xs) h) (sym none) (tt, line one);
   }
 
   -- it goes on exploring, where no start is missing
   pub team_goes_on :
       (first : Work) (others : List Work) (spent full : Bool) (before after : Hands) (on : ExploresOn i spent full before after)
       → IsTeam i starts first others before → first.spent ≡ false → first.full ≡ false → missing starts first.run ≡ []
-      → after.view.number ≡ before.view.number → after.view.others ≡ before.view.others → IsTeam i starts (grown first on) others after
-  team_goes_on first others spent full before after on team unspent unfull started number same = record {
+      → after.view.number ≡ before.view.number → after.view.others ≡ before.view.others → after.tally.seats ≡ before.tally.seats
+      → (before.tally.seats ≡ 1 → (explored : List Task) → LinesUp explored before → Every (IsPointOf i) (submissions before.view.own)
+      → InOrder before.view.own (length explored) on.explorations × LinesUp (explored ++ map (λ x. x.task) on.explorations) after)
+      → IsTeam i starts (grown first on) others after
+  team_goes_on first others spent full before after on team unspent unfull started number same seats line = record {
     works = (IsWork-grown i spent full before after on first team.works.0 unspent unfull team.goes_on, team.works.1);
     begins = team.begins;
     goes_on = team.goes_on;
@@ -78,6 +90,25 @@ module _ (i : Instance) (starts : List Point) where
     callers = ap (map (λ (list : ℕ × List Entry). list.0)) same ∙ team.callers;
     lists = ap (map (λ (list : ℕ × List Entry). list.1)) same ∙ team.lists;
     adds_up = AddsUp-grown i spent full before after on first others team.adds_up;
+    counts = HasCounted-grown i spent full before after on first.run (runs_of others) team.counts;
+    in_turn = λ one alone.
+        let before_one = sym seats ∙ one in
+        let xs = first.run.explorations in
+        let ys = on.explorations in
+        let explored = map (λ (x : Exploration). x.task) xs in
+        let so_far = team.in_turn before_one alone in
+        let made : before.view.own ≡ first.run.starts ++ flat_map entries_of xs =
+        team.own
+        ∙ (ap (λ (last : List Entry). first.run.starts ++ (flat_map entries_of xs ++ last)) team.goes_on
+        ∙ ap (λ (es : List Entry). first.run.starts ++ es) (append-nil (flat_map entries_of xs))) in
+        let points = subst (Every (IsPointOf i)) (ap submissions (sym team.own)) team.works.0.points in
+        let more = line before_one explored so_far.1 points in
+        let many = length-map xs (λ (x : Exploration). x.task) in
+        let count : length explored ≡ 0 + length xs = omega (arith, many) in (
+          InOrder-append first.run.starts 0 (length explored) xs ys count so_far.0
+              (subst (λ (h : List Entry). InOrder h (length explored) ys) made more.0),
+          more.1 ∙ ap (λ (ts : List Task). ts ++ map task_of after.account.waiting) (sym (map-append (λ (x : Exploration). x.task) xs ys)),
+        );
   }
 
   -- it takes over what the next worker did
@@ -128,6 +159,11 @@ module _ (i : Instance) (starts : List Point) where
           let both = ap (λ (t : Tally). t.goes) joins.tallies in
           omega (arith, both, team.adds_up.goes_are, done.adds_up.goes_are, sums);
     };
+    counts =
+        subst (λ runs. HasCounted i runs after) (sym (map-append (λ (w : Work). w.run) (first ∷ others) (w ∷ [])))
+        (HasCounted-joined i (runs_of (first ∷ others)) (w.run ∷ []) before other after joins.explored joins.evaluated team.counts done.counts);
+    -- it is not the only one
+    in_turn = λ one alone. let none = ap length alone in absurd (omega (arith, long, none));
   }
     where
       long : length (others ++ w ∷ []) ≡ suc (length others)

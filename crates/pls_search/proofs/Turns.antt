@@ -16,10 +16,10 @@ use Rattle.pls_pool.specs.declared.cause.Cause.{Cause}
 use Rattle.pls_pool.specs.declared.cause.Cause.TheVariants.{Spent, Full, Memory}
 use Rattle.pls_problem.specs.declared.instance.Instance.{Instance}
 use Rattle.pls_search.specs.Neighbours.{neighbours_of, is_of, IsPointOf}
-use Rattle.pls_search.specs.Workers.{Hands, Did}
+use Rattle.pls_search.specs.Workers.{Hands, Did, is_explored}
 use Rattle.pls_search.specs.Steps.{UnlessMemory, ExploresTask, TakesUp}
 use Rattle.pls_search.specs.Onwards.{ExploresOn}
-use Rattle.pls_search.proofs.Moments.{SameCounts-self, Did-nothing, Did-then, Did-after}
+use Rattle.pls_search.proofs.Moments.{Did-none, Did-then, Did-after}
 
 -- ---- whole explorations, and the last of which may be cut
 
@@ -43,7 +43,7 @@ not-not false = refl
 
 module _ (i : Instance) (before after : Hands) where
   -- tasks were taken alone
-  unfoldable pub ExploresOn-taken : (ts : List Task) → Did [] ts 0 0 0 before after → ExploresOn i false false before after
+  unfoldable pub ExploresOn-taken : (ts : List Task) → Did [] ts 0 0 0 0 0 before after → ExploresOn i false false before after
   ExploresOn-taken ts did =
       record { explorations = []; took = ts; each = tt; last = tt; cut = refl; points = tt; taken = λ test. omega arith; did = did }
 
@@ -51,7 +51,8 @@ module _ (i : Instance) (before after : Hands) where
   unfoldable pub ExploresOn-explored :
       (x : Exploration) (spent full : Bool) → IsExploration (neighbours_of i) x → is_whole (neighbours_of i) x ≡ not (spent || full)
       → Every (IsPointOf i) (submissions x.updates)
-      → Did (entries_of x) (x.task ∷ []) (evaluated_in x + one_if full + one_if spent) (evaluated_in x + one_if full) (one_if (not (spent || full))) before after
+      → Did (entries_of x) (x.task ∷ []) (evaluated_in x + one_if full + one_if spent) (evaluated_in x + one_if full) (one_if (not (spent || full)))
+      (one_if (is_explored i x)) (evaluated_in x) before after
       → ExploresOn i spent full before after
   ExploresOn-explored x spent full is whole each did =
       let asked : submissions (entries_of x) ≡ submissions x.updates = ap (λ (call : Call). submitted_by call ++ submissions x.updates) is.asks in
@@ -67,7 +68,7 @@ module _ (i : Instance) (before after : Hands) where
             subst (λ (es : List Entry). Every (IsPointOf i) (submissions es)) (sym (append-nil (entries_of x)))
             (subst (Every (IsPointOf i)) (sym asked) each);
         taken = λ test. omega arith;
-        did = Did-then refl refl (omega arith) (omega arith) (omega (arith, finished)) did (Did-nothing after after refl refl (SameCounts-self after.tally));
+        did = Did-then refl refl (omega arith) (omega arith) (omega (arith, finished)) (omega arith) (omega arith) did (Did-none after);
       }
 
 -- one turn after others
@@ -83,6 +84,8 @@ ExploresOn-then i spent full first between last one two =
     let cuts : how_many (is_cut near) (xs ++ ys) ≡ how_many (is_cut near) xs + how_many (is_cut near) ys = total-append (λ x. one_if (is_cut near x)) xs ys in
     let wholes : how_many (is_whole near) (xs ++ ys) ≡ how_many (is_whole near) xs + how_many (is_whole near) ys =
     total-append (λ x. one_if (is_whole near x)) xs ys in
+    let explored : how_many (is_explored i) (xs ++ ys) ≡ how_many (is_explored i) xs + how_many (is_explored i) ys =
+    total-append (λ x. one_if (is_explored i x)) xs ys in
     record {
       explorations = xs ++ ys;
       took = one.took ++ two.took;
@@ -93,26 +96,26 @@ ExploresOn-then i spent full first between last one two =
           subst (Every (IsPointOf i)) (sym (ap submissions entries ∙ submissions-append (flat_map entries_of xs) (flat_map entries_of ys)))
           (Every-append (IsPointOf i) (submissions (flat_map entries_of xs)) (submissions (flat_map entries_of ys)) one.points two.points);
       taken = λ test.
-          let explored = ap (how_many test) (map-append (λ (x : Exploration). x.task) xs ys)
+          let tasks = ap (how_many test) (map-append (λ (x : Exploration). x.task) xs ys)
           ∙ total-append (λ t. one_if (test t)) (map (λ (x : Exploration). x.task) xs) (map (λ (x : Exploration). x.task) ys) in
           let took = total-append (λ t. one_if (test t)) one.took two.took in
-          omega (arith, one.taken test, two.taken test, explored, took);
-      did = Did-then entries refl (omega (arith, evaluated)) (omega (arith, evaluated)) wholes one.did two.did;
+          omega (arith, one.taken test, two.taken test, tasks, took);
+      did = Did-then entries refl (omega (arith, evaluated)) (omega (arith, evaluated)) wholes explored evaluated one.did two.did;
     }
 
 -- a task was taken, and then taken up
-module _ (i : Instance) (t : Task) (before between after : Hands) (took : Did [] (t ∷ []) 0 0 0 before between) where
+module _ (i : Instance) (t : Task) (before between after : Hands) (took : Did [] (t ∷ []) 0 0 0 0 0 before between) where
   pub ExploresOn-took : (spent full : Bool) → TakesUp i t between after spent full → ExploresOn i spent full before after
   ExploresOn-took spent full up = by_way up.does
     where
       by_way :
           ExploresTask i t (one_if (not (spent || full))) between after spent full
-          ⊎ ((is_of i t.point ≡ false) × (spent ≡ false) × (full ≡ false) × Did [] [] 0 0 0 between after)
+          ⊎ ((is_of i t.point ≡ false) × (spent ≡ false) × (full ≡ false) × Did [] [] 0 0 0 0 0 between after)
           → ExploresOn i spent full before after
       by_way (inl explores) =
           let x = explores.exploration in
           ExploresOn-explored i before after x spent full explores.is explores.whole explores.each
-          (Did-then refl (ap (λ (u : Task). u ∷ []) explores.of) (omega arith) (omega arith) (omega arith) took explores.did)
+          (Did-then refl (ap (λ (u : Task). u ∷ []) explores.of) (omega arith) (omega arith) (omega arith) (omega arith) (omega arith) took explores.did)
       by_way (inr (other, unspent, unfull, did)) =
           subst (λ (b : Bool). ExploresOn i b full before after) (sym unspent)
           (subst (λ (b : Bool). ExploresOn i false b before after) (sym unfull) (ExploresOn-taken i before after (t ∷ []) (Did-after took did)))

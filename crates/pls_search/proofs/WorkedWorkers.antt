@@ -6,7 +6,7 @@ use Rattle.pls_knapsack.specs.Instance.{value, fits, no_other_bit, feasible}
 use Rattle.pls_knapsack.specs.Neighbours.{points, neighbours}
 use Rattle.pls_archive.specs.declared.point.Point.{Point}
 use Rattle.pls_archive.specs.declared.call.Call.TheVariants.{Update, Member}
-use Rattle.pls_archive.specs.declared.call.Reply.TheVariants.{Added, Refused, Yes}
+use Rattle.pls_archive.specs.declared.call.Reply.TheVariants.{Added, Refused, Yes, No}
 use Rattle.pls_archive.specs.declared.call.Entry.{Entry}
 use Rattle.pls_archive.specs.Lists.{one_if}
 use Rattle.pls_archive.specs.Explorations.{Task, Exploration, CallerRun}
@@ -20,7 +20,7 @@ use Rattle.pls_problem.specs.declared.instance.Instance.TheVariants.{Knapsack}
 use Rattle.pls_problem.specs.Instance.{value as value_of, neighbours as all_neighbours, feasible as feasible_of}
 use Rattle.pls_search.specs.declared.task.Task.{Task as Waiting}
 use Rattle.pls_search.specs.Neighbours.{point_of, neighbours_of, is_of}
-use Rattle.pls_search.specs.Workers.{Hands, Did, Work, IsWork, LinesUp, IsNewWorker}
+use Rattle.pls_search.specs.Workers.{Hands, Did, Work, IsWork, HasCounted, LinesUp, IsNewWorker, is_explored}
 use Rattle.pls_search.specs.Steps.{causes_of}
 
 -- two items that fit together
@@ -139,10 +139,10 @@ abbrev nothing : Account Waiting
 nothing = record { numbers = 0 ∷ []; put = λ test. 0; taken = λ test. 0; spare = []; waiting = [] }
 
 abbrev at_first : Hands
-at_first = record { view = record { number = 0; observed = []; own = []; others = [] }; account = nothing; tally = started 1 1 1 }
+at_first = record { view = record { number = 0; observed = []; own = []; others = [] }; account = nothing; tally = started 1 1 1; explored = 0; evaluated = 0 }
 
 new_is : IsNewWorker at_first
-new_is = record { own = refl; put = λ test. refl; taken = λ test. refl; opened = refl; done = refl; draws = refl; goes = refl }
+new_is = record { own = refl; put = λ test. refl; taken = λ test. refl; opened = refl; done = refl; draws = refl; goes = refl; explored = refl; evaluated = refl }
 
 abbrev waiting : Waiting
 waiting = record { point = both; stamp = 1 }
@@ -153,9 +153,11 @@ begun = record {
   view = record { number = 0; observed = start ∷ []; own = start ∷ []; others = [] };
   account = record nothing { put = λ test. one_if (test waiting); waiting = waiting ∷ [] };
   tally = opening at_first.tally;
+  explored = 0;
+  evaluated = 0;
 }
 
-begun_did : Did (start ∷ []) [] 0 0 0 at_first begun
+begun_did : Did (start ∷ []) [] 0 0 0 0 0 at_first begun
 begun_did = record {
   own = refl;
   put = λ test. omega arith;
@@ -164,6 +166,8 @@ begun_did = record {
   draws_are = refl;
   goes_are = refl;
   done_are = refl;
+  explored_are = refl;
+  evaluated_are = refl;
 }
 
 begun_lines : LinesUp [] begun
@@ -171,6 +175,25 @@ begun_lines = refl
 
 in_order : InOrder begun.view.own 0 (exploration ∷ [])
 in_order = (refl, tt)
+
+-- ---- counts
+
+-- a cut exploration and a skipped one are not counted, and a whole one is
+cut_counts_none : is_explored two exploration ≡ false
+unfolding value fits no_other_bit feasible points neighbours value_of all_neighbours
+cut_counts_none = refl
+
+skipped_counts_none : is_explored two (record { task = first; asked = record question { reply = No }; updates = [] }) ≡ false
+unfolding value fits no_other_bit feasible points neighbours value_of all_neighbours
+skipped_counts_none = refl
+
+whole_counts : is_explored two (record exploration { updates = refused ∷ refused ∷ [] }) ≡ true
+unfolding value fits no_other_bit feasible points neighbours value_of all_neighbours
+whole_counts = refl
+
+counts_are : HasCounted two (work.run ∷ []) (record begun { evaluated = 1 })
+unfolding value fits no_other_bit feasible points neighbours value_of all_neighbours
+counts_are = record { explored_are = refl; evaluated_are = refl }
 
 -- ---- causes
 

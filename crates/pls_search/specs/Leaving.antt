@@ -10,6 +10,7 @@ use Rattle.pls_problem.specs.declared.instance.Instance.{Instance}
 use Rattle.pls_search.specs.Workers.{Hands, Work, GoesOn}
 use Rattle.pls_search.specs.Steps.{UnlessMemory, causes_of}
 use Rattle.pls_search.specs.Onwards.{ExploresOn}
+use Rattle.pls_search.specs.InLine.{ExploresInLine}
 use Rattle.pls_search.specs.Teams.{IsTeam, fulls, spents}
 
 -- the hands are those of a team of so many workers, of which this is true
@@ -75,3 +76,6 @@ graver (Err Spent) (Err cause) = Err cause
 pub record Departs (reply : List Point → Call → Reply) (i : Instance) (started : ℕ) (end : Result (Unit {0}) Cause) (before after : Hands) : Type 0 where
   pub explores : UnlessMemory end (λ spent full. ExploresOn i spent full before after)
   pub goes_on : GoesOn reply started (causes_of end) before after
+  -- its seat is at the same desk, and where that has one seat alone, it explored in order
+  pub seats : after.tally.seats ≡ before.tally.seats
+  pub in_line : before.tally.seats ≡ 1 → UnlessMemory end (ExploresInLine i before after)

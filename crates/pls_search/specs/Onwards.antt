@@ -6,7 +6,7 @@ use Rattle.pls_archive.specs.History.{submissions}
 use Rattle.pls_archive.specs.Explorations.{Task, Exploration, IsExploration, OnlyLastIsCut, tasks, entries_of, evaluated_in, is_whole, is_cut}
 use Rattle.pls_problem.specs.declared.instance.Instance.{Instance}
 use Rattle.pls_search.specs.Neighbours.{neighbours_of, IsPointOf}
-use Rattle.pls_search.specs.Workers.{Hands, Work, Did}
+use Rattle.pls_search.specs.Workers.{Hands, Work, Did, is_explored}
 
 -- Between two moments a worker made these explorations, of tasks that it took. Only the last may be cut: where no move was left,
 -- or the archive was full.
@@ -20,7 +20,8 @@ pub record ExploresOn (i : Instance) (spent full : Bool) (before after : Hands) 
   pub taken : IsAmong (map (λ x. x.task) explorations) took
   pub did :
       Did (flat_map entries_of explorations) took (total evaluated_in explorations + one_if full + one_if spent)
-      (total evaluated_in explorations + one_if full) (how_many (is_whole (neighbours_of i)) explorations) before after
+      (total evaluated_in explorations + one_if full) (how_many (is_whole (neighbours_of i)) explorations)
+      (how_many (is_explored i) explorations) (total evaluated_in explorations) before after
 
 -- the work with what came to it
 module _ {i : Instance} {spent full : Bool} {before after : Hands} where

@@ -9,8 +9,9 @@ use Rattle.pls_archive.specs.declared.call.Entry.{Entry}
 use Rattle.pls_archive.specs.Lists.{Every}
 use Rattle.pls_archive.specs.History.{submissions}
 use Rattle.pls_archive.specs.View.{View, IsConsistent, lists_of}
-use Rattle.pls_archive.specs.Explorations.{CallerRun, entries_of_run}
+use Rattle.pls_archive.specs.Explorations.{CallerRun, entries_of_run, explored, evaluated, accepted_count}
 use Rattle.pls_archive.specs.SearchRun.{IsSearchRun, IsClosed, IsStopped, IsCutShort}
+use Rattle.pls_archive.specs.Sequential.{InOrder}
 use Rattle.pls_pool.specs.declared.cause.Cause.{Cause}
 use Rattle.pls_pool.specs.declared.cause.Cause.TheVariants as causes
 use Rattle.pls_problem.specs.declared.instance.Instance.{Instance}
@@ -39,6 +40,19 @@ pub record HoldsRun (reply : List Point → Call → Reply) (i : Instance) (star
   pub told : run.asks_last.entry.reply ≡ Points members
   -- so few points were accepted that no update was refused for their number
   pub few : length v.observed ≤ 10 ^ 9 + 64
+  -- one worker alone explores the accepted points in order of acceptance
+  pub in_order : started ≡ 1 → InOrder first.starts 0 first.explorations
+
+-- so many explorations were whole and not skipped, so many neighbours evaluated, and so many points accepted
+pub record HasCounts (i : Instance) (runs : List CallerRun) (whole neighbours accepted : ℕ) : Type 0 where
+  pub explored_are : whole ≡ explored (neighbours_of i) runs
+  pub evaluated_are : neighbours ≡ evaluated runs
+  pub accepted_are : accepted ≡ accepted_count runs
+
+-- a run that a view holds, and its counts
+abbrev pub Finds : (List Point → Call → Reply) → Instance → List Point → ℕ → ℕ → View → End → List Point → ℕ → ℕ → ℕ → Type 0
+Finds reply i starts moves started v end members whole neighbours accepted =
+    (run : HoldsRun reply i starts moves started v end members) × HasCounts i (run.first ∷ run.others) whole neighbours accepted
 
 -- the end of a search whose workers left for this cause
 abbrev pub Tells : {A : Type 0} → Result A Cause → End → Type 0

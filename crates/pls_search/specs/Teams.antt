@@ -6,12 +6,13 @@ use Rattle.pls_archive.specs.declared.call.Entry.{Entry}
 use Rattle.pls_archive.specs.Lists.{Every, total, how_many}
 use Rattle.pls_archive.specs.Explorations.{Task, CallerRun, entries_of_run}
 use Rattle.pls_archive.specs.SearchRun.{SubmitsFirst, OnlyExplores, missing}
+use Rattle.pls_archive.specs.Sequential.{InOrder}
 use Rattle.pls_archive.specs.View.{Joins as JoinsViews}
 use Rattle.pls_pool.specs.Accounts.{Joins as JoinsAccounts}
 use Rattle.pls_pool.specs.DeskRule.{AllWent}
 use Rattle.pls_pool.specs.Tallies.{joining}
 use Rattle.pls_problem.specs.declared.instance.Instance.{Instance}
-use Rattle.pls_search.specs.Workers.{Hands, Work, IsWork, put_by, taken_by}
+use Rattle.pls_search.specs.Workers.{Hands, Work, IsWork, RisesBy, LinesUp, HasCounted, put_by, taken_by}
 
 -- the runs that these works are of
 abbrev pub runs_of : List Work → List CallerRun
@@ -43,6 +44,14 @@ pub record HasDone (i : Instance) (w : Work) (h : Hands) : Type 0 where
   pub goes_on : w.run.last ≡ []
   pub own : h.view.own ≡ entries_of_run w.run
   pub adds_up : AddsUp (w ∷ []) h
+  pub counts : HasCounted i (w.run ∷ []) h
+
+-- Where the desk has one seat, so that the first worker is the only one: it explored in order the tasks that its entries made, and
+-- those that wait are the ones that follow.
+abbrev pub InTurn : Work → List Work → Hands → Type 0
+InTurn first others h =
+    h.tally.seats ≡ 1 → others ≡ []
+    → InOrder first.run.starts 0 first.run.explorations × LinesUp (map (λ x. x.task) first.run.explorations) h
 
 -- The first worker's hands, into which those of the others were joined in order, stand for what all of them did.
 pub record IsTeam (i : Instance) (starts : List Point) (first : Work) (others : List Work) (h : Hands) : Type 0 where
@@ -58,6 +67,8 @@ pub record IsTeam (i : Instance) (starts : List Point) (first : Work) (others : 
   pub callers : map (λ (list : ℕ × List Entry). list.0) h.view.others ≡ range_with_len 1 (length others)
   pub lists : map (λ (list : ℕ × List Entry). list.1) h.view.others ≡ map entries_of_run (runs_of others)
   pub adds_up : AddsUp (first ∷ others) h
+  pub counts : HasCounted i (runs_of (first ∷ others)) h
+  pub in_turn : InTurn first others h
 
 -- what is taken is among what was put, and as many draws gave a move as there are moves
 pub record IsAccounted (moves : ℕ) (h : Hands) : Type 0 where
@@ -75,3 +86,5 @@ pub record JoinsHands (before other after : Hands) : Type 0 where
   pub views : JoinsViews before.view other.view after.view
   pub accounts : JoinsAccounts before.account other.account after.account
   pub tallies : after.tally ≡ joining before.tally other.tally
+  pub explored : RisesBy other.explored before.explored after.explored
+  pub evaluated : RisesBy other.evaluated before.evaluated after.evaluated

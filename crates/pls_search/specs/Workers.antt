@@ -1,5 +1,5 @@
 -- What a worker of a search did, and what it hands on when it leaves.
-use Rattle.std.specs.Prelude.{◌≡◌, ◌⊎◌, ℕ, ◌+◌, ◌%◌, ◌^◌, ◌<◌, ◌≤◌, Bool, ◌||◌, List, [], ◌∷◌, ◌++◌, length, map}
+use Rattle.std.specs.Prelude.{◌≡◌, ◌⊎◌, ℕ, ◌+◌, ◌%◌, ◌^◌, ◌<◌, ◌≤◌, Bool, ◌&&◌, not, ◌||◌, List, [], ◌∷◌, ◌++◌, length, map}
 use Rattle.pls_archive.specs.declared.point.Point.{Point}
 use Rattle.pls_archive.specs.declared.call.Call.{Call}
 use Rattle.pls_archive.specs.declared.call.Reply.{Reply}
@@ -7,7 +7,7 @@ use Rattle.pls_archive.specs.declared.call.Entry.{Entry}
 use Rattle.pls_archive.specs.Lists.{Every, how_many, one_if}
 use Rattle.pls_archive.specs.History.{submissions}
 use Rattle.pls_archive.specs.View.{View, IsConsistent}
-use Rattle.pls_archive.specs.Explorations.{Task, CallerRun, tasks, entries_of_run, is_whole, is_cut, evaluated}
+use Rattle.pls_archive.specs.Explorations.{Task, Exploration, CallerRun, tasks, entries_of_run, is_whole, is_cut, is_skipped, explored, evaluated}
 use Rattle.pls_archive.specs.SearchRun.{Explores}
 use Rattle.pls_pool.specs.Accounts.{Account}
 use Rattle.pls_pool.specs.DeskRule.{HoldsAll, AllWent}
@@ -21,14 +21,17 @@ use Rattle.pls_search.specs.Neighbours.{neighbours_of, IsPointOf}
 abbrev pub task_of : Waiting → Task
 task_of t = record { point = t.point; stamp = t.stamp }
 
--- what a worker's pass, its seat at the pool and its seat at the desk are seen as
+-- What a worker's pass, its seat at the pool and its seat at the desk are seen as; and its own counts, modulo 2^64, of the
+-- explorations that were whole and not skipped, and of the neighbours that it submitted.
 pub record Hands : Type 0 where
   pub view : View
   pub account : Account Waiting
   pub tally : Tally
+  pub explored : ℕ
+  pub evaluated : ℕ
 
-abbrev pub hands : View → Account Waiting → Tally → Hands
-hands v a t = record { view = v; account = a; tally = t }
+abbrev pub hands : View → Account Waiting → Tally → ℕ → ℕ → Hands
+hands v a t n m = record { view = v; account = a; tally = t; explored = n; evaluated = m }
 
 -- how many of the tasks that its seat put pass a test, and how many of those that it took
 abbrev pub put_by : Hands → (Task → Bool) → ℕ
@@ -37,11 +40,19 @@ put_by h test = h.account.put (λ t. test (task_of t))
 abbrev pub taken_by : Hands → (Task → Bool) → ℕ
 taken_by h test = h.account.taken (λ t. test (task_of t))
 
+-- the exploration was whole and not skipped
+abbrev pub is_explored : Instance → Exploration → Bool
+is_explored i x = is_whole (neighbours_of i) x && not (is_skipped x)
+
 -- ---- steps of a worker
 
+-- a count rose by so much, modulo 2^64
+abbrev pub RisesBy : ℕ → ℕ → ℕ → Type 0
+RisesBy n before after = after % 2 ^ 64 ≡ (before + n) % 2 ^ 64
+
 -- Between two moments a worker made these entries, and took these tasks; it drew so often, so many of its draws gave a move,
--- and it counted so many tasks as done.
-pub record Did (entries : List Entry) (took : List Task) (draws goes done : ℕ) (before after : Hands) : Type 0 where
+-- and it counted so many tasks as done, so many explorations as whole and not skipped, and so many neighbours.
+pub record Did (entries : List Entry) (took : List Task) (draws goes done explores evaluates : ℕ) (before after : Hands) : Type 0 where
   pub own : after.view.own ≡ before.view.own ++ entries
   pub put : (test : Task → Bool) → put_by after test ≡ put_by before test + how_many test (tasks entries)
   pub taken : (test : Task → Bool) → taken_by after test ≡ taken_by before test + how_many test took
@@ -49,6 +60,8 @@ pub record Did (entries : List Entry) (took : List Task) (draws goes done : ℕ)
   pub draws_are : after.tally.draws ≡ before.tally.draws + draws
   pub goes_are : after.tally.goes ≡ before.tally.goes + goes
   pub done_are : after.tally.done ≡ before.tally.done + done
+  pub explored_are : RisesBy explores before.explored after.explored
+  pub evaluated_are : RisesBy evaluates before.evaluated after.evaluated
 
 -- Whatever it did, its view stays consistent, and it holds what it held; it halted the run for these causes.
 pub record GoesOn (reply : List Point → Call → Reply) (started : ℕ) (causes : List Cause) (before after : Hands) : Type 0 where
@@ -115,11 +128,17 @@ work_of r spent full h = record {
   goes = h.tally.goes;
 }
 
+-- the counts in the hands are those of these runs
+pub record HasCounted (i : Instance) (runs : List CallerRun) (h : Hands) : Type 0 where
+  pub explored_are : h.explored % 2 ^ 64 ≡ explored (neighbours_of i) runs % 2 ^ 64
+  pub evaluated_are : h.evaluated % 2 ^ 64 ≡ evaluated runs % 2 ^ 64
+
 -- what a worker has in its hands stands for a run that it made
 pub record StandsFor (i : Instance) (spent full : Bool) (h : Hands) (r : CallerRun) : Type 0 where
   pub own : h.view.own ≡ entries_of_run r
   pub last : r.last ≡ []
   pub work : IsWork i (work_of r spent full h)
+  pub counts : HasCounted i (r ∷ []) h
 
 -- a worker that has done nothing
 pub record IsNewWorker (h : Hands) : Type 0 where
@@ -130,6 +149,8 @@ pub record IsNewWorker (h : Hands) : Type 0 where
   pub done : h.tally.done ≡ 0
   pub draws : h.tally.draws ≡ 0
   pub goes : h.tally.goes ≡ 0
+  pub explored : h.explored ≡ 0
+  pub evaluated : h.evaluated ≡ 0
 
 -- ---- why a worker leaves that halted nothing, as it is told to a seat that holds all seats of the desk
 

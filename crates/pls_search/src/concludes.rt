@@ -11,7 +11,7 @@ ghost use Rattle.pls_problem.specs.Instance.{objectives};
 ghost use Rattle.pls_search.specs.Workers.{hands};
 ghost use Rattle.pls_search.specs.Teams.{IsSmall};
 ghost use Rattle.pls_search.specs.Leaving.{IsUnhalted, IsIdle, Leaves, Ended};
-ghost use Rattle.pls_search.specs.Outcomes.{HoldsRun, Tells};
+ghost use Rattle.pls_search.specs.Outcomes.{Finds, Tells};
 
 use crate::departs::Left;
 use crate::end::End;
@@ -53,6 +53,7 @@ impl<'a, A: Shared, P: Pool<Task>, G: Gate> Search<'a, A, P, G> {
         requires all { HoldsAll (tally_of worker.old.desk_seat) }
         requires consistent { IsConsistent (A.Law.reply (A.number self.now.archive.now)) (A.passes self.now.archive.now) (A.view worker.old.pass) }
         requires full { left ≢ Err Memory → (A.shows_full worker.old.pass ↔ (left ≡ Err Full)) }
+        requires alike { P.seats self.now.pool.now ≡ self.now.desk.now.seats }
         ensures pass { A.belongs self.now.archive.now worker.new.pass × A.at_rest worker.new.pass }
         ensures seats { P.belongs self.now.pool.now worker.new.pool_seat × IsDeskSeatOf self.now.desk.now worker.new.desk_seat }
         ensures all { HoldsAll (tally_of worker.new.desk_seat) }
@@ -60,9 +61,9 @@ impl<'a, A: Shared, P: Pool<Task>, G: Gate> Search<'a, A, P, G> {
         ensures full { result ≢ Err Memory → (A.shows_full worker.new.pass ↔ (result ≡ Err Full)) }
         ensures numbers { (P.account worker.new.pool_seat).numbers ≡ (P.account worker.old.pool_seat).numbers }
         ensures leaves { (starts : List Point) → Leaves IsUnhalted self.now.instance.now starts (A.passes self.now.archive.now) left
-            (hands (A.view worker.old.pass) (P.account worker.old.pool_seat) (tally_of worker.old.desk_seat))
+            (hands (A.view worker.old.pass) (P.account worker.old.pool_seat) (tally_of worker.old.desk_seat) worker.old.explored worker.old.evaluated)
             → Leaves IsIdle self.now.instance.now starts (A.passes self.now.archive.now) result
-            (hands (A.view worker.new.pass) (P.account worker.new.pool_seat) (tally_of worker.new.desk_seat)) }
+            (hands (A.view worker.new.pass) (P.account worker.new.pool_seat) (tally_of worker.new.desk_seat) worker.new.explored worker.new.evaluated) }
     {
         match left {
             Ok(()) => self.work(rt, worker),
@@ -85,10 +86,11 @@ impl<'a, A: Shared, P: Pool<Task>, G: Gate> Search<'a, A, P, G> {
         requires all { HoldsAllSeats (P.seats self.now.pool.now) (P.account worker.pool_seat) × HoldsAll (tally_of worker.desk_seat) }
         requires consistent { IsConsistent (A.Law.reply (A.number self.now.archive.now)) (A.passes self.now.archive.now) (A.view worker.pass) }
         requires full { left ≢ Err Memory → (A.shows_full worker.pass ↔ (left ≡ Err Full)) }
-        ensures run { (starts : List Point) → IsSmall starts self.now.desk.now.moves
+        requires passes { A.passes self.now.archive.now ≡ self.now.desk.now.seats }
+        ensures found { (starts : List Point) → IsSmall starts self.now.desk.now.moves
             → Ended self.now.instance.now starts (A.passes self.now.archive.now) left
-            (hands (A.view worker.pass) (P.account worker.pool_seat) (tally_of worker.desk_seat))
-            → IfOk result (λ o. HoldsRun (A.Law.reply (A.number self.now.archive.now)) self.now.instance.now starts self.now.desk.now.moves (A.passes self.now.archive.now) (A.view o.pass) o.end o.front) }
+            (hands (A.view worker.pass) (P.account worker.pool_seat) (tally_of worker.desk_seat) worker.explored worker.evaluated)
+            → IfOk result (λ o. Finds (A.Law.reply (A.number self.now.archive.now)) self.now.instance.now starts self.now.desk.now.moves (A.passes self.now.archive.now) (A.view o.pass) o.end o.front o.explored o.evaluated o.accepted) }
         ensures pass { IfOk result (λ o. A.belongs self.now.archive.now o.pass × A.at_rest o.pass) }
         ensures full { IfOk result (λ o. A.shows_full o.pass ↔ (o.end ≡ End.Full)) }
         ensures no_memory { IfErr result (λ n. A.belongs self.now.archive.now n.pass × A.at_rest n.pass
@@ -101,9 +103,12 @@ impl<'a, A: Shared, P: Pool<Task>, G: Gate> Search<'a, A, P, G> {
         let _ = self.pool.take(rt, &mut worker.pool_seat);
         let _ = self.desk.halted(&mut worker.desk_seat);
         match self.archive.snapshot(rt, alloc, &mut worker.pass) {
-            Ok((front, _)) => Ok(Outcome {
+            Ok((front, accepted)) => Ok(Outcome {
                 end,
                 front,
+                explored: worker.explored,
+                evaluated: worker.evaluated,
+                accepted,
                 pass: worker.pass,
             }),
             Err(_) => Err(NoMemory { pass: worker.pass }),
@@ -126,10 +131,12 @@ impl<'a, A: Shared, P: Pool<Task>, G: Gate> Search<'a, A, P, G> {
         requires all { HoldsAllSeats (P.seats self.now.pool.now) (P.account left.worker.pool_seat) × HoldsAll (tally_of left.worker.desk_seat) }
         requires consistent { IsConsistent (A.Law.reply (A.number self.now.archive.now)) (A.passes self.now.archive.now) (A.view left.worker.pass) }
         requires full { left.end ≢ Err Memory → (A.shows_full left.worker.pass ↔ (left.end ≡ Err Full)) }
-        ensures run { (starts : List Point) → IsSmall starts self.now.desk.now.moves
+        requires alike { P.seats self.now.pool.now ≡ self.now.desk.now.seats }
+        requires passes { A.passes self.now.archive.now ≡ self.now.desk.now.seats }
+        ensures found { (starts : List Point) → IsSmall starts self.now.desk.now.moves
             → Leaves IsUnhalted self.now.instance.now starts (A.passes self.now.archive.now) left.end
-            (hands (A.view left.worker.pass) (P.account left.worker.pool_seat) (tally_of left.worker.desk_seat))
-            → IfOk result (λ o. HoldsRun (A.Law.reply (A.number self.now.archive.now)) self.now.instance.now starts self.now.desk.now.moves (A.passes self.now.archive.now) (A.view o.pass) o.end o.front) }
+            (hands (A.view left.worker.pass) (P.account left.worker.pool_seat) (tally_of left.worker.desk_seat) left.worker.explored left.worker.evaluated)
+            → IfOk result (λ o. Finds (A.Law.reply (A.number self.now.archive.now)) self.now.instance.now starts self.now.desk.now.moves (A.passes self.now.archive.now) (A.view o.pass) o.end o.front o.explored o.evaluated o.accepted) }
         ensures pass { IfOk result (λ o. A.belongs self.now.archive.now o.pass × A.at_rest o.pass) }
         ensures full { IfOk result (λ o. A.shows_full o.pass ↔ (o.end ≡ End.Full)) }
         ensures no_memory { IfErr result (λ n. A.belongs self.now.archive.now n.pass × A.at_rest n.pass

@@ -25,6 +25,7 @@ impl<A: Shared, P: Pool<Task>> Crew<A, P> {
         ensures even { OnSome result ((vec_len self.new.pool_seats ≡ vec_len self.new.passes) × (vec_len self.new.desk_seats ≡ vec_len self.new.passes)) }
         ensures passes { IfSome result (λ w. self.old.passes.items ≡ self.new.passes.items ++ w.pass ∷ []) }
         ensures pool_seats { IfSome result (λ w. self.old.pool_seats.items ≡ self.new.pool_seats.items ++ w.pool_seat ∷ []) }
+        ensures uncounted { IfSome result (λ w. (w.explored ≡ 0) × (w.evaluated ≡ 0)) }
         ensures desk_seats { IfSome result (λ w. self.old.desk_seats.items ≡ self.new.desk_seats.items ++ w.desk_seat ∷ []) }
     {
         let number = self.passes.len();
@@ -34,6 +35,8 @@ impl<A: Shared, P: Pool<Task>> Crew<A, P> {
         Some(Worker {
             number: number as u32,
             begun: 0,
+            explored: 0,
+            evaluated: 0,
             pass,
             pool_seat,
             desk_seat,

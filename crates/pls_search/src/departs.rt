@@ -37,8 +37,8 @@ impl<A: Shared, P: Pool<Task>> Promise<Left<A, P>> for Departing<A, P> {
     ghost kept_by = { λ p r. A.belongs p.archive.value r.worker.pass × A.at_rest r.worker.pass
         × P.belongs p.pool.value r.worker.pool_seat × IsDeskSeatOf p.desk.value r.worker.desk_seat
         × Departs (A.Law.reply (A.number p.archive.value)) p.instance.value (A.passes p.archive.value) r.end
-        (hands (A.view p.before.value.pass) (P.account p.before.value.pool_seat) (tally_of p.before.value.desk_seat))
-        (hands (A.view r.worker.pass) (P.account r.worker.pool_seat) (tally_of r.worker.desk_seat))
+        (hands (A.view p.before.value.pass) (P.account p.before.value.pool_seat) (tally_of p.before.value.desk_seat) p.before.value.explored p.before.value.evaluated)
+        (hands (A.view r.worker.pass) (P.account r.worker.pool_seat) (tally_of r.worker.desk_seat) r.worker.explored r.worker.evaluated)
         × (A.shows_full r.worker.pass ↔ (A.shows_full p.before.value.pass ⊎ (r.end ≡ Err Full))) };
 }
 
@@ -49,11 +49,12 @@ impl<'a, A: Shared, P: Pool<Task>, G: Gate> Search<'a, A, P, G> {
         requires seats { P.belongs self.now.pool.now worker.pool_seat × IsDeskSeatOf self.now.desk.now worker.desk_seat }
         requires objectives { A.objectives self.now.archive.now ≡ objectives self.now.instance.now }
         requires fresh { (tally_of worker.desk_seat).draws ≡ (tally_of worker.desk_seat).goes }
+        requires alike { P.seats self.now.pool.now ≡ self.now.desk.now.seats }
         ensures pass { A.belongs self.now.archive.now result.worker.pass × A.at_rest result.worker.pass }
         ensures seats { P.belongs self.now.pool.now result.worker.pool_seat × IsDeskSeatOf self.now.desk.now result.worker.desk_seat }
         ensures departs { Departs (A.Law.reply (A.number self.now.archive.now)) self.now.instance.now (A.passes self.now.archive.now) result.end
-            (hands (A.view worker.pass) (P.account worker.pool_seat) (tally_of worker.desk_seat))
-            (hands (A.view result.worker.pass) (P.account result.worker.pool_seat) (tally_of result.worker.desk_seat)) }
+            (hands (A.view worker.pass) (P.account worker.pool_seat) (tally_of worker.desk_seat) worker.explored worker.evaluated)
+            (hands (A.view result.worker.pass) (P.account result.worker.pool_seat) (tally_of result.worker.desk_seat) result.worker.explored result.worker.evaluated) }
         ensures full { A.shows_full result.worker.pass ↔ (A.shows_full worker.pass ⊎ (result.end ≡ Err Full)) }
     {
         let end = self.work(rt, &mut worker);

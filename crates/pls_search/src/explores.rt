@@ -31,22 +31,24 @@ impl<'a, A: Shared, P: Pool<Task>, G: Gate> Search<'a, A, P, G> {
         ensures pass { A.belongs self.now.archive.now worker.new.pass × A.at_rest worker.new.pass }
         ensures seats { P.belongs self.now.pool.now worker.new.pool_seat × IsDeskSeatOf self.now.desk.now worker.new.desk_seat }
         ensures submits { UnlessMemory result (SubmitsNeighbour point.now
-            (hands (A.view worker.old.pass) (P.account worker.old.pool_seat) (tally_of worker.old.desk_seat))
-            (hands (A.view worker.new.pass) (P.account worker.new.pool_seat) (tally_of worker.new.desk_seat))) }
+            (hands (A.view worker.old.pass) (P.account worker.old.pool_seat) (tally_of worker.old.desk_seat) worker.old.explored worker.old.evaluated)
+            (hands (A.view worker.new.pass) (P.account worker.new.pool_seat) (tally_of worker.new.desk_seat) worker.new.explored worker.new.evaluated)) }
         ensures goes_on { GoesOn (A.Law.reply (A.number self.now.archive.now)) (A.passes self.now.archive.now) []
-            (hands (A.view worker.old.pass) (P.account worker.old.pool_seat) (tally_of worker.old.desk_seat))
-            (hands (A.view worker.new.pass) (P.account worker.new.pool_seat) (tally_of worker.new.desk_seat)) }
+            (hands (A.view worker.old.pass) (P.account worker.old.pool_seat) (tally_of worker.old.desk_seat) worker.old.explored worker.old.evaluated)
+            (hands (A.view worker.new.pass) (P.account worker.new.pool_seat) (tally_of worker.new.desk_seat) worker.new.explored worker.new.evaluated) }
         ensures fresh { result ≢ Err Spent → (tally_of worker.new.desk_seat).draws ≡ (tally_of worker.new.desk_seat).goes }
         ensures full { A.shows_full worker.new.pass ↔ (A.shows_full worker.old.pass ⊎ (result ≡ Err Full)) }
         ensures room { result ≡ Err Full → A.safe self.now.archive.now < length (accepted (A.view worker.new.pass).observed) + 1 }
         ensures in_line { result ≢ Err Memory → P.seats self.now.pool.now ≡ 1 → StaysInLine
-            (hands (A.view worker.old.pass) (P.account worker.old.pool_seat) (tally_of worker.old.desk_seat))
-            (hands (A.view worker.new.pass) (P.account worker.new.pool_seat) (tally_of worker.new.desk_seat)) }
+            (hands (A.view worker.old.pass) (P.account worker.old.pool_seat) (tally_of worker.old.desk_seat) worker.old.explored worker.old.evaluated)
+            (hands (A.view worker.new.pass) (P.account worker.new.pool_seat) (tally_of worker.new.desk_seat) worker.new.explored worker.new.evaluated) }
     {
         match self.desk.draw(&mut worker.desk_seat) {
-            Draw::Go => self.submit(rt, worker, point),
-            Draw::Spent => Err(Cause::Spent),
+            Draw::Go => self.submit(rt, worker, point)?,
+            Draw::Spent => return Err(Cause::Spent),
         }
+        worker.evaluated = worker.evaluated.wrapping_add(1);
+        Ok(())
     }
 
     // Submits the neighbours of a feasible point, in order.
@@ -64,17 +66,17 @@ impl<'a, A: Shared, P: Pool<Task>, G: Gate> Search<'a, A, P, G> {
         ensures pass { A.belongs self.now.archive.now worker.new.pass × A.at_rest worker.new.pass }
         ensures seats { P.belongs self.now.pool.now worker.new.pool_seat × IsDeskSeatOf self.now.desk.now worker.new.desk_seat }
         ensures submits { UnlessMemory result (SubmitsNeighbours self.now.instance.now of.now
-            (hands (A.view worker.old.pass) (P.account worker.old.pool_seat) (tally_of worker.old.desk_seat))
-            (hands (A.view worker.new.pass) (P.account worker.new.pool_seat) (tally_of worker.new.desk_seat))) }
+            (hands (A.view worker.old.pass) (P.account worker.old.pool_seat) (tally_of worker.old.desk_seat) worker.old.explored worker.old.evaluated)
+            (hands (A.view worker.new.pass) (P.account worker.new.pool_seat) (tally_of worker.new.desk_seat) worker.new.explored worker.new.evaluated)) }
         ensures goes_on { GoesOn (A.Law.reply (A.number self.now.archive.now)) (A.passes self.now.archive.now) []
-            (hands (A.view worker.old.pass) (P.account worker.old.pool_seat) (tally_of worker.old.desk_seat))
-            (hands (A.view worker.new.pass) (P.account worker.new.pool_seat) (tally_of worker.new.desk_seat)) }
+            (hands (A.view worker.old.pass) (P.account worker.old.pool_seat) (tally_of worker.old.desk_seat) worker.old.explored worker.old.evaluated)
+            (hands (A.view worker.new.pass) (P.account worker.new.pool_seat) (tally_of worker.new.desk_seat) worker.new.explored worker.new.evaluated) }
         ensures fresh { result ≢ Err Spent → (tally_of worker.new.desk_seat).draws ≡ (tally_of worker.new.desk_seat).goes }
         ensures full { A.shows_full worker.new.pass ↔ (A.shows_full worker.old.pass ⊎ (result ≡ Err Full)) }
         ensures room { result ≡ Err Full → A.safe self.now.archive.now < length (accepted (A.view worker.new.pass).observed) + 1 }
         ensures in_line { result ≢ Err Memory → P.seats self.now.pool.now ≡ 1 → StaysInLine
-            (hands (A.view worker.old.pass) (P.account worker.old.pool_seat) (tally_of worker.old.desk_seat))
-            (hands (A.view worker.new.pass) (P.account worker.new.pool_seat) (tally_of worker.new.desk_seat)) }
+            (hands (A.view worker.old.pass) (P.account worker.old.pool_seat) (tally_of worker.old.desk_seat) worker.old.explored worker.old.evaluated)
+            (hands (A.view worker.new.pass) (P.account worker.new.pool_seat) (tally_of worker.new.desk_seat) worker.new.explored worker.new.evaluated) }
     {
         let mut walk = self.instance.walk(&of.sol);
         let mut point = *of;
@@ -102,23 +104,25 @@ impl<'a, A: Shared, P: Pool<Task>, G: Gate> Search<'a, A, P, G> {
         ensures pass { A.belongs self.now.archive.now worker.new.pass × A.at_rest worker.new.pass }
         ensures seats { P.belongs self.now.pool.now worker.new.pool_seat × IsDeskSeatOf self.now.desk.now worker.new.desk_seat }
         ensures explores { UnlessMemory result (ExploresTask self.now.instance.now (task_of task.now) 0
-            (hands (A.view worker.old.pass) (P.account worker.old.pool_seat) (tally_of worker.old.desk_seat))
-            (hands (A.view worker.new.pass) (P.account worker.new.pool_seat) (tally_of worker.new.desk_seat))) }
+            (hands (A.view worker.old.pass) (P.account worker.old.pool_seat) (tally_of worker.old.desk_seat) worker.old.explored worker.old.evaluated)
+            (hands (A.view worker.new.pass) (P.account worker.new.pool_seat) (tally_of worker.new.desk_seat) worker.new.explored worker.new.evaluated)) }
         ensures goes_on { GoesOn (A.Law.reply (A.number self.now.archive.now)) (A.passes self.now.archive.now) []
-            (hands (A.view worker.old.pass) (P.account worker.old.pool_seat) (tally_of worker.old.desk_seat))
-            (hands (A.view worker.new.pass) (P.account worker.new.pool_seat) (tally_of worker.new.desk_seat)) }
+            (hands (A.view worker.old.pass) (P.account worker.old.pool_seat) (tally_of worker.old.desk_seat) worker.old.explored worker.old.evaluated)
+            (hands (A.view worker.new.pass) (P.account worker.new.pool_seat) (tally_of worker.new.desk_seat) worker.new.explored worker.new.evaluated) }
         ensures fresh { result ≢ Err Spent → (tally_of worker.new.desk_seat).draws ≡ (tally_of worker.new.desk_seat).goes }
         ensures full { A.shows_full worker.new.pass ↔ (A.shows_full worker.old.pass ⊎ (result ≡ Err Full)) }
         ensures room { result ≡ Err Full → A.safe self.now.archive.now < length (accepted (A.view worker.new.pass).observed) + 1 }
         ensures in_line { result ≢ Err Memory → P.seats self.now.pool.now ≡ 1 → StaysInLine
-            (hands (A.view worker.old.pass) (P.account worker.old.pool_seat) (tally_of worker.old.desk_seat))
-            (hands (A.view worker.new.pass) (P.account worker.new.pool_seat) (tally_of worker.new.desk_seat)) }
+            (hands (A.view worker.old.pass) (P.account worker.old.pool_seat) (tally_of worker.old.desk_seat) worker.old.explored worker.old.evaluated)
+            (hands (A.view worker.new.pass) (P.account worker.new.pool_seat) (tally_of worker.new.desk_seat) worker.new.explored worker.new.evaluated) }
     {
         let (is_member, stamp) = self.archive.member(rt, &mut worker.pass, task.point.value);
         if !is_member && task.stamp <= stamp {
             return Ok(());
         }
-        self.submit_neighbours(rt, worker, &task.point)
+        self.submit_neighbours(rt, worker, &task.point)?;
+        worker.explored = worker.explored.wrapping_add(1);
+        Ok(())
     }
 
     /// Explores a task: where its point is a member still, or the answer is older than the task, its neighbours are submitted. The
@@ -138,17 +142,17 @@ impl<'a, A: Shared, P: Pool<Task>, G: Gate> Search<'a, A, P, G> {
         ensures pass { A.belongs self.now.archive.now worker.new.pass × A.at_rest worker.new.pass }
         ensures seats { P.belongs self.now.pool.now worker.new.pool_seat × IsDeskSeatOf self.now.desk.now worker.new.desk_seat }
         ensures explores { UnlessMemory result (λ spent full. ExploresTask self.now.instance.now (task_of task.now) (one_if (not (spent || full)))
-            (hands (A.view worker.old.pass) (P.account worker.old.pool_seat) (tally_of worker.old.desk_seat))
-            (hands (A.view worker.new.pass) (P.account worker.new.pool_seat) (tally_of worker.new.desk_seat)) spent full) }
+            (hands (A.view worker.old.pass) (P.account worker.old.pool_seat) (tally_of worker.old.desk_seat) worker.old.explored worker.old.evaluated)
+            (hands (A.view worker.new.pass) (P.account worker.new.pool_seat) (tally_of worker.new.desk_seat) worker.new.explored worker.new.evaluated) spent full) }
         ensures goes_on { GoesOn (A.Law.reply (A.number self.now.archive.now)) (A.passes self.now.archive.now) []
-            (hands (A.view worker.old.pass) (P.account worker.old.pool_seat) (tally_of worker.old.desk_seat))
-            (hands (A.view worker.new.pass) (P.account worker.new.pool_seat) (tally_of worker.new.desk_seat)) }
+            (hands (A.view worker.old.pass) (P.account worker.old.pool_seat) (tally_of worker.old.desk_seat) worker.old.explored worker.old.evaluated)
+            (hands (A.view worker.new.pass) (P.account worker.new.pool_seat) (tally_of worker.new.desk_seat) worker.new.explored worker.new.evaluated) }
         ensures fresh { result ≢ Err Spent → (tally_of worker.new.desk_seat).draws ≡ (tally_of worker.new.desk_seat).goes }
         ensures full { A.shows_full worker.new.pass ↔ (A.shows_full worker.old.pass ⊎ (result ≡ Err Full)) }
         ensures room { result ≡ Err Full → A.safe self.now.archive.now < length (accepted (A.view worker.new.pass).observed) + 1 }
         ensures in_line { result ≢ Err Memory → P.seats self.now.pool.now ≡ 1 → StaysInLine
-            (hands (A.view worker.old.pass) (P.account worker.old.pool_seat) (tally_of worker.old.desk_seat))
-            (hands (A.view worker.new.pass) (P.account worker.new.pool_seat) (tally_of worker.new.desk_seat)) }
+            (hands (A.view worker.old.pass) (P.account worker.old.pool_seat) (tally_of worker.old.desk_seat) worker.old.explored worker.old.evaluated)
+            (hands (A.view worker.new.pass) (P.account worker.new.pool_seat) (tally_of worker.new.desk_seat) worker.new.explored worker.new.evaluated) }
     {
         self.submit_due(rt, worker, task)?;
         self.desk.done(&mut worker.desk_seat);

@@ -8,7 +8,7 @@ ghost use Rattle.pls_pool.specs.DeskSeats.{IsDeskSeatOf, IsNewDeskSeat, tally_of
 ghost use Rattle.pls_pool.specs.declared.cause.Cause.TheVariants.{Memory};
 ghost use Rattle.pls_search.specs.Crews.{AreSeated};
 ghost use Rattle.pls_search.specs.Leaving.{OfTeam, Lacks};
-ghost use Rattle.pls_search.specs.Outcomes.{HoldsRun};
+ghost use Rattle.pls_search.specs.Outcomes.{Finds};
 ghost use Rattle.pls_search.specs.Teams.{IsSmall};
 ghost use Rattle.pls_search.specs.Workers.{hands};
 
@@ -44,9 +44,9 @@ impl<'a, A: Shared, P: Pool<Task>, G: Gate> Search<'a, A, P, G> {
         ensures consistent { IsConsistent (A.Law.reply (A.number self.now.archive.now)) (A.passes self.now.archive.now) (A.view result.pass) }
         ensures full { A.shows_full result.pass ↔ A.shows_full first.pass }
         ensures lacks { (starts : List Point) → OfTeam self.now.instance.now starts 1 (Lacks starts)
-            (hands (A.view first.pass) (P.account first.pool_seat) (tally_of first.desk_seat))
+            (hands (A.view first.pass) (P.account first.pool_seat) (tally_of first.desk_seat) first.explored first.evaluated)
             → OfTeam self.now.instance.now starts (vec_len crew.passes + 1) (Lacks starts)
-            (hands (A.view result.pass) (P.account result.pool_seat) (tally_of result.desk_seat)) }
+            (hands (A.view result.pass) (P.account result.pool_seat) (tally_of result.desk_seat) result.explored result.evaluated) }
     {
         let Some(other) = self.next_of(&mut crew) else {
             return first;
@@ -78,10 +78,10 @@ impl<'a, A: Shared, P: Pool<Task>, G: Gate> Search<'a, A, P, G> {
         requires new_passes { AreSeated (λ k p. A.belongs self.now.archive.now p × A.at_rest p × (A.view p ≡ new_view (k + 1)) × ¬ A.shows_full p) crew.passes.items }
         requires new_seats { AreSeated (λ k s. P.belongs self.now.pool.now s × IsNew (k + 1) (P.account s)) crew.pool_seats.items }
         requires new_desk_seats { AreSeated (λ k s. IsNewDeskSeat self.now.desk.now s) crew.desk_seats.items }
-        ensures run { (starts : List Point) → IsSmall starts self.now.desk.now.moves
+        ensures found { (starts : List Point) → IsSmall starts self.now.desk.now.moves
             → (cause ≢ Memory → OfTeam self.now.instance.now starts 1 (Lacks starts)
-            (hands (A.view first.pass) (P.account first.pool_seat) (tally_of first.desk_seat)))
-            → IfOk result (λ o. HoldsRun (A.Law.reply (A.number self.now.archive.now)) self.now.instance.now starts self.now.desk.now.moves (A.passes self.now.archive.now) (A.view o.pass) o.end o.front) }
+            (hands (A.view first.pass) (P.account first.pool_seat) (tally_of first.desk_seat) first.explored first.evaluated))
+            → IfOk result (λ o. Finds (A.Law.reply (A.number self.now.archive.now)) self.now.instance.now starts self.now.desk.now.moves (A.passes self.now.archive.now) (A.view o.pass) o.end o.front o.explored o.evaluated o.accepted) }
         ensures pass { IfOk result (λ o. A.belongs self.now.archive.now o.pass × A.at_rest o.pass) }
         ensures full { IfOk result (λ o. A.shows_full o.pass ↔ (o.end ≡ End.Full)) }
         ensures no_memory { IfErr result (λ n. A.belongs self.now.archive.now n.pass × A.at_rest n.pass

@@ -8,6 +8,9 @@ use pls_archive::PointList;
 pub struct Outcome<P> {
     pub end: End,
     pub front: PointList,
+    pub explored: u64,
+    pub evaluated: u64,
+    pub accepted: u64,
     pub pass: P,
 }
 

@@ -6,7 +6,7 @@ ghost use Rattle.pls_pool.specs.DeskSeats.{IsNewDeskSeat};
 ghost use Rattle.pls_problem.specs.Instance.{feasible, objectives};
 ghost use Rattle.pls_search.specs.Crews.{AreSeated};
 ghost use Rattle.pls_search.specs.Neighbours.{point_of};
-ghost use Rattle.pls_search.specs.Outcomes.{HoldsRun};
+ghost use Rattle.pls_search.specs.Outcomes.{Finds};
 
 use crate::crew::Crew;
 use crate::end::End;
@@ -46,7 +46,7 @@ where
     requires new_passes { AreSeated (λ k p. A.belongs archive.now p × A.at_rest p × (A.view p ≡ new_view k) × ¬ A.shows_full p) passes.items }
     requires new_seats { AreSeated (λ k s. P.belongs pool.now s × IsNew k (P.account s)) seats.items }
     requires new_desk_seats { AreSeated (λ k s. IsNewDeskSeat desk.now s) desk_seats.items }
-    ensures run { IfOk result (λ o. HoldsRun (A.Law.reply (A.number archive.now)) instance.now (map (point_of instance.now) starts.now) desk.now.moves (A.passes archive.now) (A.view o.pass) o.end o.front) }
+    ensures found { IfOk result (λ o. Finds (A.Law.reply (A.number archive.now)) instance.now (map (point_of instance.now) starts.now) desk.now.moves (A.passes archive.now) (A.view o.pass) o.end o.front o.explored o.evaluated o.accepted) }
     ensures pass { IfOk result (λ o. A.belongs archive.now o.pass × A.at_rest o.pass) }
     ensures full { IfOk result (λ o. A.shows_full o.pass ↔ (o.end ≡ End.Full)) }
     ensures no_memory { IfErr result (λ n. A.belongs archive.now n.pass × A.at_rest n.pass
@@ -62,6 +62,8 @@ where
     let mut first = Worker {
         number: 0,
         begun: 0,
+        explored: 0,
+        evaluated: 0,
         pass: passes.remove(0),
         pool_seat: seats.remove(0),
         desk_seat: desk_seats.remove(0),

@@ -46,6 +46,7 @@ impl<'a, A: Shared, P: Pool<Task>, G: Gate> Search<'a, A, P, G> {
         requires new_passes { AreSeated (λ k p. A.belongs self.now.archive.now p × A.at_rest p × (A.view p ≡ new_view (k + 1)) × ¬ A.shows_full p) crew.passes.items }
         requires new_seats { AreSeated (λ k s. P.belongs self.now.pool.now s × IsNew (k + 1) (P.account s)) crew.pool_seats.items }
         requires new_desk_seats { AreSeated (λ k s. IsNewDeskSeat self.now.desk.now s) crew.desk_seats.items }
+        requires alike { P.seats self.now.pool.now ≡ self.now.desk.now.seats }
         ensures pass { A.belongs self.now.archive.now result.worker.pass × A.at_rest result.worker.pass }
         ensures seats { P.belongs self.now.pool.now result.worker.pool_seat × IsDeskSeatOf self.now.desk.now result.worker.desk_seat }
         ensures all { ((P.account result.worker.pool_seat).numbers ≡ range_with_len 0 (vec_len crew.passes + 1))
@@ -54,9 +55,9 @@ impl<'a, A: Shared, P: Pool<Task>, G: Gate> Search<'a, A, P, G> {
         ensures fresh { OnOk result.end ((tally_of result.worker.desk_seat).draws ≡ (tally_of result.worker.desk_seat).goes) }
         ensures full { result.end ≢ Err Memory → (A.shows_full result.worker.pass ↔ (result.end ≡ Err Full)) }
         ensures leaves { (starts : List Point) → AreReady self.now.instance.now starts 1
-            (hands (A.view first.pass) (P.account first.pool_seat) (tally_of first.desk_seat))
+            (hands (A.view first.pass) (P.account first.pool_seat) (tally_of first.desk_seat) first.explored first.evaluated)
             → Leaves IsUnhalted self.now.instance.now starts (vec_len crew.passes + 1) result.end
-            (hands (A.view result.worker.pass) (P.account result.worker.pool_seat) (tally_of result.worker.desk_seat)) }
+            (hands (A.view result.worker.pass) (P.account result.worker.pool_seat) (tally_of result.worker.desk_seat) result.worker.explored result.worker.evaluated) }
     {
         thread::scope(
             thread::scope_env(),
@@ -73,7 +74,8 @@ impl<'a, A: Shared, P: Pool<Task>, G: Gate> Search<'a, A, P, G> {
                     × ((vec_len crew.pool_seats ≡ vec_len crew.passes) × (vec_len crew.desk_seats ≡ vec_len crew.passes))
                     × (AreSeated (λ k p. A.belongs self.now.archive.now p × A.at_rest p × (A.view p ≡ new_view (k + 1)) × ¬ A.shows_full p) crew.passes.items)
                     × (AreSeated (λ k s. P.belongs self.now.pool.now s × IsNew (k + 1) (P.account s)) crew.pool_seats.items)
-                    × (AreSeated (λ k s. IsNewDeskSeat self.now.desk.now s) crew.desk_seats.items) }
+                    × (AreSeated (λ k s. IsNewDeskSeat self.now.desk.now s) crew.desk_seats.items)
+                    × (P.seats self.now.pool.now ≡ self.now.desk.now.seats) }
             { self.together(scope, rt, first, crew) },
         )
     }

@@ -31,16 +31,16 @@ impl<'a, A: Shared, P: Pool<Task>, G: Gate> Search<'a, A, P, G> {
         ensures pass { A.belongs self.now.archive.now worker.new.pass × A.at_rest worker.new.pass }
         ensures seats { P.belongs self.now.pool.now worker.new.pool_seat × IsDeskSeatOf self.now.desk.now worker.new.desk_seat }
         ensures submits { UnlessMemory result (SubmitsAll self.now.instance.now (map (point_of self.now.instance.now) starts.now)
-            (hands (A.view worker.old.pass) (P.account worker.old.pool_seat) (tally_of worker.old.desk_seat))
-            (hands (A.view worker.new.pass) (P.account worker.new.pool_seat) (tally_of worker.new.desk_seat))) }
+            (hands (A.view worker.old.pass) (P.account worker.old.pool_seat) (tally_of worker.old.desk_seat) worker.old.explored worker.old.evaluated)
+            (hands (A.view worker.new.pass) (P.account worker.new.pool_seat) (tally_of worker.new.desk_seat) worker.new.explored worker.new.evaluated)) }
         ensures goes_on { GoesOn (A.Law.reply (A.number self.now.archive.now)) (A.passes self.now.archive.now) []
-            (hands (A.view worker.old.pass) (P.account worker.old.pool_seat) (tally_of worker.old.desk_seat))
-            (hands (A.view worker.new.pass) (P.account worker.new.pool_seat) (tally_of worker.new.desk_seat)) }
+            (hands (A.view worker.old.pass) (P.account worker.old.pool_seat) (tally_of worker.old.desk_seat) worker.old.explored worker.old.evaluated)
+            (hands (A.view worker.new.pass) (P.account worker.new.pool_seat) (tally_of worker.new.desk_seat) worker.new.explored worker.new.evaluated) }
         ensures full { A.shows_full worker.new.pass ↔ (A.shows_full worker.old.pass ⊎ (result ≡ Err Full)) }
         ensures room { result ≡ Err Full → A.safe self.now.archive.now < length (accepted (A.view worker.new.pass).observed) + 1 }
         ensures in_line { result ≢ Err Memory → P.seats self.now.pool.now ≡ 1 → StaysInLine
-            (hands (A.view worker.old.pass) (P.account worker.old.pool_seat) (tally_of worker.old.desk_seat))
-            (hands (A.view worker.new.pass) (P.account worker.new.pool_seat) (tally_of worker.new.desk_seat)) }
+            (hands (A.view worker.old.pass) (P.account worker.old.pool_seat) (tally_of worker.old.desk_seat) worker.old.explored worker.old.evaluated)
+            (hands (A.view worker.new.pass) (P.account worker.new.pool_seat) (tally_of worker.new.desk_seat) worker.new.explored worker.new.evaluated) }
     {
         for sol in starts {
             let point = Point {
@@ -67,16 +67,16 @@ impl<'a, A: Shared, P: Pool<Task>, G: Gate> Search<'a, A, P, G> {
         ensures pass { A.belongs self.now.archive.now worker.new.pass × A.at_rest worker.new.pass }
         ensures seats { P.belongs self.now.pool.now worker.new.pool_seat × IsDeskSeatOf self.now.desk.now worker.new.desk_seat }
         ensures submits { UnlessMemory result (SubmitsStarts self.now.instance.now (map (point_of self.now.instance.now) starts.now)
-            (hands (A.view worker.old.pass) (P.account worker.old.pool_seat) (tally_of worker.old.desk_seat))
-            (hands (A.view worker.new.pass) (P.account worker.new.pool_seat) (tally_of worker.new.desk_seat))) }
+            (hands (A.view worker.old.pass) (P.account worker.old.pool_seat) (tally_of worker.old.desk_seat) worker.old.explored worker.old.evaluated)
+            (hands (A.view worker.new.pass) (P.account worker.new.pool_seat) (tally_of worker.new.desk_seat) worker.new.explored worker.new.evaluated)) }
         ensures goes_on { GoesOn (A.Law.reply (A.number self.now.archive.now)) (A.passes self.now.archive.now) (causes_of result)
-            (hands (A.view worker.old.pass) (P.account worker.old.pool_seat) (tally_of worker.old.desk_seat))
-            (hands (A.view worker.new.pass) (P.account worker.new.pool_seat) (tally_of worker.new.desk_seat)) }
+            (hands (A.view worker.old.pass) (P.account worker.old.pool_seat) (tally_of worker.old.desk_seat) worker.old.explored worker.old.evaluated)
+            (hands (A.view worker.new.pass) (P.account worker.new.pool_seat) (tally_of worker.new.desk_seat) worker.new.explored worker.new.evaluated) }
         ensures full { A.shows_full worker.new.pass ↔ (A.shows_full worker.old.pass ⊎ (result ≡ Err Full)) }
         ensures room { result ≡ Err Full → A.safe self.now.archive.now < length (accepted (A.view worker.new.pass).observed) + 1 }
         ensures in_line { result ≢ Err Memory → P.seats self.now.pool.now ≡ 1 → StaysInLine
-            (hands (A.view worker.old.pass) (P.account worker.old.pool_seat) (tally_of worker.old.desk_seat))
-            (hands (A.view worker.new.pass) (P.account worker.new.pool_seat) (tally_of worker.new.desk_seat)) }
+            (hands (A.view worker.old.pass) (P.account worker.old.pool_seat) (tally_of worker.old.desk_seat) worker.old.explored worker.old.evaluated)
+            (hands (A.view worker.new.pass) (P.account worker.new.pool_seat) (tally_of worker.new.desk_seat) worker.new.explored worker.new.evaluated) }
     {
         let end = self.submit_all(rt, worker, starts);
         self.halt_by(worker, end)

@@ -32,7 +32,7 @@ impl<'a, A: Shared, P: Pool<Task>, G: Gate> Search<'a, A, P, G> {
     fn offer<R: Wait>(&self, rt: &R, worker: &mut Worker<A, P>, task: Task) -> Result<(), Cause>
         requires seats { P.belongs self.now.pool.now worker.old.pool_seat × IsDeskSeatOf self.now.desk.now worker.old.desk_seat }
         ensures seats { P.belongs self.now.pool.now worker.new.pool_seat × IsDeskSeatOf self.now.desk.now worker.new.desk_seat }
-        ensures pass { worker.new.pass ≡ worker.old.pass }
+        ensures others { (worker.new.pass ≡ worker.old.pass) × (worker.new.explored ≡ worker.old.explored) × (worker.new.evaluated ≡ worker.old.evaluated) }
         ensures tally { tally_of worker.new.desk_seat ≡ opening (tally_of worker.old.desk_seat) }
         ensures put { MatchResult result (λ _. Puts (P.seats self.now.pool.now) task (P.account worker.old.pool_seat) (P.account worker.new.pool_seat))
             (λ cause. (cause ≡ Memory) × (P.account worker.new.pool_seat ≡ P.account worker.old.pool_seat)) }
@@ -57,17 +57,17 @@ impl<'a, A: Shared, P: Pool<Task>, G: Gate> Search<'a, A, P, G> {
         ensures pass { A.belongs self.now.archive.now worker.new.pass × A.at_rest worker.new.pass }
         ensures seats { P.belongs self.now.pool.now worker.new.pool_seat × IsDeskSeatOf self.now.desk.now worker.new.desk_seat }
         ensures submits { UnlessMemory result (Submits point.now
-            (hands (A.view worker.old.pass) (P.account worker.old.pool_seat) (tally_of worker.old.desk_seat))
-            (hands (A.view worker.new.pass) (P.account worker.new.pool_seat) (tally_of worker.new.desk_seat))) }
+            (hands (A.view worker.old.pass) (P.account worker.old.pool_seat) (tally_of worker.old.desk_seat) worker.old.explored worker.old.evaluated)
+            (hands (A.view worker.new.pass) (P.account worker.new.pool_seat) (tally_of worker.new.desk_seat) worker.new.explored worker.new.evaluated)) }
         ensures goes_on { GoesOn (A.Law.reply (A.number self.now.archive.now)) (A.passes self.now.archive.now) []
-            (hands (A.view worker.old.pass) (P.account worker.old.pool_seat) (tally_of worker.old.desk_seat))
-            (hands (A.view worker.new.pass) (P.account worker.new.pool_seat) (tally_of worker.new.desk_seat)) }
+            (hands (A.view worker.old.pass) (P.account worker.old.pool_seat) (tally_of worker.old.desk_seat) worker.old.explored worker.old.evaluated)
+            (hands (A.view worker.new.pass) (P.account worker.new.pool_seat) (tally_of worker.new.desk_seat) worker.new.explored worker.new.evaluated) }
         ensures drawn { ((tally_of worker.new.desk_seat).draws ≡ (tally_of worker.old.desk_seat).draws) × ((tally_of worker.new.desk_seat).goes ≡ (tally_of worker.old.desk_seat).goes) }
         ensures full { A.shows_full worker.new.pass ↔ (A.shows_full worker.old.pass ⊎ (result ≡ Err Full)) }
         ensures room { result ≡ Err Full → A.safe self.now.archive.now < length (accepted (A.view worker.new.pass).observed) + 1 }
         ensures in_line { result ≢ Err Memory → P.seats self.now.pool.now ≡ 1 → StaysInLine
-            (hands (A.view worker.old.pass) (P.account worker.old.pool_seat) (tally_of worker.old.desk_seat))
-            (hands (A.view worker.new.pass) (P.account worker.new.pool_seat) (tally_of worker.new.desk_seat)) }
+            (hands (A.view worker.old.pass) (P.account worker.old.pool_seat) (tally_of worker.old.desk_seat) worker.old.explored worker.old.evaluated)
+            (hands (A.view worker.new.pass) (P.account worker.new.pool_seat) (tally_of worker.new.desk_seat) worker.new.explored worker.new.evaluated) }
     {
         match self.archive.update(rt, &mut worker.pass, *point) {
             Ok((taken, stamp)) => match taken {

@@ -37,9 +37,9 @@ impl<'a, A: Shared, P: Pool<Task>, G: Gate> Search<'a, A, P, G> {
         requires other_full { other.end ≢ Err Memory → (A.shows_full other.worker.pass ↔ (other.end ≡ Err Full)) }
         ensures pass { A.belongs self.now.archive.now result.worker.pass × A.at_rest result.worker.pass }
         ensures seats { P.belongs self.now.pool.now result.worker.pool_seat × IsDeskSeatOf self.now.desk.now result.worker.desk_seat }
-        ensures joins { JoinsHands (hands (A.view left.worker.pass) (P.account left.worker.pool_seat) (tally_of left.worker.desk_seat))
-            (hands (A.view other.worker.pass) (P.account other.worker.pool_seat) (tally_of other.worker.desk_seat))
-            (hands (A.view result.worker.pass) (P.account result.worker.pool_seat) (tally_of result.worker.desk_seat)) }
+        ensures joins { JoinsHands (hands (A.view left.worker.pass) (P.account left.worker.pool_seat) (tally_of left.worker.desk_seat) left.worker.explored left.worker.evaluated)
+            (hands (A.view other.worker.pass) (P.account other.worker.pool_seat) (tally_of other.worker.desk_seat) other.worker.explored other.worker.evaluated)
+            (hands (A.view result.worker.pass) (P.account result.worker.pool_seat) (tally_of result.worker.desk_seat) result.worker.explored result.worker.evaluated) }
         ensures consistent { IsConsistent (A.Law.reply (A.number self.now.archive.now)) (A.passes self.now.archive.now) (A.view result.worker.pass) }
         ensures end { result.end ≡ graver left.end other.end }
         ensures full { result.end ≢ Err Memory → (A.shows_full result.worker.pass ↔ (result.end ≡ Err Full)) }
@@ -68,6 +68,7 @@ impl<'a, A: Shared, P: Pool<Task>, G: Gate> Search<'a, A, P, G> {
         ensures count { MatchOption result (vec_len crew.old.passes ≡ 0) (λ _. vec_len crew.new.passes + 1 ≡ vec_len crew.old.passes) }
         ensures pass { IfSome result (λ w. A.belongs self.now.archive.now w.pass × A.at_rest w.pass × (A.view w.pass ≡ new_view (vec_len crew.old.passes)) × ¬ A.shows_full w.pass) }
         ensures seat { IfSome result (λ w. P.belongs self.now.pool.now w.pool_seat × IsNew (vec_len crew.old.passes) (P.account w.pool_seat)) }
+        ensures uncounted { IfSome result (λ w. (w.explored ≡ 0) × (w.evaluated ≡ 0)) }
         ensures desk_seat { IfSome result (λ w. IsNewDeskSeat self.now.desk.now w.desk_seat) }
     {
         crew.next()
@@ -98,6 +99,7 @@ impl<'a, A: Shared, P: Pool<Task>, G: Gate> Search<'a, A, P, G> {
         requires new_passes { AreSeated (λ k p. A.belongs self.now.archive.now p × A.at_rest p × (A.view p ≡ new_view (k + 1)) × ¬ A.shows_full p) crew.passes.items }
         requires new_seats { AreSeated (λ k s. P.belongs self.now.pool.now s × IsNew (k + 1) (P.account s)) crew.pool_seats.items }
         requires new_desk_seats { AreSeated (λ k s. IsNewDeskSeat self.now.desk.now s) crew.desk_seats.items }
+        requires alike { P.seats self.now.pool.now ≡ self.now.desk.now.seats }
         ensures pass { A.belongs self.now.archive.now result.worker.pass × A.at_rest result.worker.pass }
         ensures seats { P.belongs self.now.pool.now result.worker.pool_seat × IsDeskSeatOf self.now.desk.now result.worker.desk_seat }
         ensures all { ((P.account result.worker.pool_seat).numbers ≡ range_with_len 0 (vec_len crew.passes + 1))
@@ -106,9 +108,9 @@ impl<'a, A: Shared, P: Pool<Task>, G: Gate> Search<'a, A, P, G> {
         ensures fresh { OnOk result.end ((tally_of result.worker.desk_seat).draws ≡ (tally_of result.worker.desk_seat).goes) }
         ensures full { result.end ≢ Err Memory → (A.shows_full result.worker.pass ↔ (result.end ≡ Err Full)) }
         ensures leaves { (starts : List Point) → AreReady self.now.instance.now starts 1
-            (hands (A.view first.pass) (P.account first.pool_seat) (tally_of first.desk_seat))
+            (hands (A.view first.pass) (P.account first.pool_seat) (tally_of first.desk_seat) first.explored first.evaluated)
             → Leaves IsUnhalted self.now.instance.now starts (vec_len crew.passes + 1) result.end
-            (hands (A.view result.worker.pass) (P.account result.worker.pool_seat) (tally_of result.worker.desk_seat)) }
+            (hands (A.view result.worker.pass) (P.account result.worker.pool_seat) (tally_of result.worker.desk_seat) result.worker.explored result.worker.evaluated) }
     {
         let Some(other) = self.next_of(&mut crew) else {
             return self.depart(rt, first);
@@ -126,12 +128,13 @@ impl<'a, A: Shared, P: Pool<Task>, G: Gate> Search<'a, A, P, G> {
                 requires { A.belongs self.now.archive.now other.pass × A.at_rest other.pass
                     × P.belongs self.now.pool.now other.pool_seat × IsDeskSeatOf self.now.desk.now other.desk_seat
                     × (A.objectives self.now.archive.now ≡ objectives self.now.instance.now)
-                    × ((tally_of other.desk_seat).draws ≡ (tally_of other.desk_seat).goes) }
+                    × ((tally_of other.desk_seat).draws ≡ (tally_of other.desk_seat).goes)
+                    × (P.seats self.now.pool.now ≡ self.now.desk.now.seats) }
                 ensures { A.belongs self.entry.now.archive.now result.worker.pass × A.at_rest result.worker.pass
                     × P.belongs self.entry.now.pool.now result.worker.pool_seat × IsDeskSeatOf self.entry.now.desk.now result.worker.desk_seat
                     × Departs (A.Law.reply (A.number self.entry.now.archive.now)) self.entry.now.instance.now (A.passes self.entry.now.archive.now) result.end
-                    (hands (A.view other.pass) (P.account other.pool_seat) (tally_of other.desk_seat))
-                    (hands (A.view result.worker.pass) (P.account result.worker.pool_seat) (tally_of result.worker.desk_seat))
+                    (hands (A.view other.pass) (P.account other.pool_seat) (tally_of other.desk_seat) other.explored other.evaluated)
+                    (hands (A.view result.worker.pass) (P.account result.worker.pool_seat) (tally_of result.worker.desk_seat) result.worker.explored result.worker.evaluated)
                     × (A.shows_full result.worker.pass ↔ (A.shows_full other.pass ⊎ (result.end ≡ Err Full))) }
             { self.depart(rt, other) },
         );

@@ -12,6 +12,9 @@ pub(crate) struct Worker<A: Shared, P: Pool<Task>> {
     pub number: u32,
     /// How many explorations it began, modulo 2^64.
     pub begun: u64,
+    /// How many of them were whole, and not skipped, and how many neighbours it submitted, modulo 2^64.
+    pub explored: u64,
+    pub evaluated: u64,
     pub pass: A::Pass,
     pub pool_seat: P::Seat,
     pub desk_seat: DeskSeat,

@@ -37,6 +37,7 @@ impl<'a, A: Shared, P: Pool<Task>, G: Gate> Search<'a, A, P, G> {
         ensures desk { IsDeskSeatOf self.now.desk.now worker.new.desk_seat }
         ensures same { result ≡ end }
         ensures others { (worker.new.pass ≡ worker.old.pass) × (worker.new.pool_seat ≡ worker.old.pool_seat) }
+        ensures counts { (worker.new.explored ≡ worker.old.explored) × (worker.new.evaluated ≡ worker.old.evaluated) }
         ensures halts { Halts end (tally_of worker.old.desk_seat) (tally_of worker.new.desk_seat) }
     {
         match end {
@@ -57,17 +58,17 @@ impl<'a, A: Shared, P: Pool<Task>, G: Gate> Search<'a, A, P, G> {
         ensures pass { A.belongs self.now.archive.now worker.new.pass × A.at_rest worker.new.pass }
         ensures seats { P.belongs self.now.pool.now worker.new.pool_seat × IsDeskSeatOf self.now.desk.now worker.new.desk_seat }
         ensures takes_up { UnlessMemory result (TakesUp self.now.instance.now (task_of task.now)
-            (hands (A.view worker.old.pass) (P.account worker.old.pool_seat) (tally_of worker.old.desk_seat))
-            (hands (A.view worker.new.pass) (P.account worker.new.pool_seat) (tally_of worker.new.desk_seat))) }
+            (hands (A.view worker.old.pass) (P.account worker.old.pool_seat) (tally_of worker.old.desk_seat) worker.old.explored worker.old.evaluated)
+            (hands (A.view worker.new.pass) (P.account worker.new.pool_seat) (tally_of worker.new.desk_seat) worker.new.explored worker.new.evaluated)) }
         ensures goes_on { GoesOn (A.Law.reply (A.number self.now.archive.now)) (A.passes self.now.archive.now) (causes_of result)
-            (hands (A.view worker.old.pass) (P.account worker.old.pool_seat) (tally_of worker.old.desk_seat))
-            (hands (A.view worker.new.pass) (P.account worker.new.pool_seat) (tally_of worker.new.desk_seat)) }
+            (hands (A.view worker.old.pass) (P.account worker.old.pool_seat) (tally_of worker.old.desk_seat) worker.old.explored worker.old.evaluated)
+            (hands (A.view worker.new.pass) (P.account worker.new.pool_seat) (tally_of worker.new.desk_seat) worker.new.explored worker.new.evaluated) }
         ensures fresh { result ≢ Err Spent → (tally_of worker.new.desk_seat).draws ≡ (tally_of worker.new.desk_seat).goes }
         ensures full { A.shows_full worker.new.pass ↔ (A.shows_full worker.old.pass ⊎ (result ≡ Err Full)) }
         ensures room { result ≡ Err Full → A.safe self.now.archive.now < length (accepted (A.view worker.new.pass).observed) + 1 }
         ensures in_line { result ≢ Err Memory → P.seats self.now.pool.now ≡ 1 → StaysInLine
-            (hands (A.view worker.old.pass) (P.account worker.old.pool_seat) (tally_of worker.old.desk_seat))
-            (hands (A.view worker.new.pass) (P.account worker.new.pool_seat) (tally_of worker.new.desk_seat)) }
+            (hands (A.view worker.old.pass) (P.account worker.old.pool_seat) (tally_of worker.old.desk_seat) worker.old.explored worker.old.evaluated)
+            (hands (A.view worker.new.pass) (P.account worker.new.pool_seat) (tally_of worker.new.desk_seat) worker.new.explored worker.new.evaluated) }
     {
         if !self.is_of(task) {
             return Ok(());
@@ -87,16 +88,16 @@ impl<'a, A: Shared, P: Pool<Task>, G: Gate> Search<'a, A, P, G> {
         ensures pass { A.belongs self.now.archive.now worker.new.pass × A.at_rest worker.new.pass }
         ensures seats { P.belongs self.now.pool.now worker.new.pool_seat × IsDeskSeatOf self.now.desk.now worker.new.desk_seat }
         ensures explores { UnlessMemory result (λ spent full. ExploresOn self.now.instance.now spent full
-            (hands (A.view worker.old.pass) (P.account worker.old.pool_seat) (tally_of worker.old.desk_seat))
-            (hands (A.view worker.new.pass) (P.account worker.new.pool_seat) (tally_of worker.new.desk_seat))) }
+            (hands (A.view worker.old.pass) (P.account worker.old.pool_seat) (tally_of worker.old.desk_seat) worker.old.explored worker.old.evaluated)
+            (hands (A.view worker.new.pass) (P.account worker.new.pool_seat) (tally_of worker.new.desk_seat) worker.new.explored worker.new.evaluated)) }
         ensures goes_on { GoesOn (A.Law.reply (A.number self.now.archive.now)) (A.passes self.now.archive.now) (causes_of result)
-            (hands (A.view worker.old.pass) (P.account worker.old.pool_seat) (tally_of worker.old.desk_seat))
-            (hands (A.view worker.new.pass) (P.account worker.new.pool_seat) (tally_of worker.new.desk_seat)) }
+            (hands (A.view worker.old.pass) (P.account worker.old.pool_seat) (tally_of worker.old.desk_seat) worker.old.explored worker.old.evaluated)
+            (hands (A.view worker.new.pass) (P.account worker.new.pool_seat) (tally_of worker.new.desk_seat) worker.new.explored worker.new.evaluated) }
         ensures left { OnOk result (HasLeft (tally_of worker.new.desk_seat)) }
         ensures full { A.shows_full worker.new.pass ↔ (A.shows_full worker.old.pass ⊎ (result ≡ Err Full)) }
         ensures in_line { P.seats self.now.pool.now ≡ 1 → UnlessMemory result (ExploresInLine self.now.instance.now
-            (hands (A.view worker.old.pass) (P.account worker.old.pool_seat) (tally_of worker.old.desk_seat))
-            (hands (A.view worker.new.pass) (P.account worker.new.pool_seat) (tally_of worker.new.desk_seat))) }
+            (hands (A.view worker.old.pass) (P.account worker.old.pool_seat) (tally_of worker.old.desk_seat) worker.old.explored worker.old.evaluated)
+            (hands (A.view worker.new.pass) (P.account worker.new.pool_seat) (tally_of worker.new.desk_seat) worker.new.explored worker.new.evaluated)) }
         ensures room { result ≡ Err Full → A.safe self.now.archive.now < length (accepted (A.view worker.new.pass).observed) + 1 }
     {
         for _ in rt.forever() {

@@ -1,4 +1,4 @@
-use Rattle.std.proofs.Common.{rules, arith, ◌≡◌, ◌+◌, ◌≤◌, ap, sym, subst, ◌∙◌, length, map, vec_len}
+use Rattle.std.proofs.Common.{rules, arith, ◌≡◌, ◌+◌, ◌≤◌, refl, ap, sym, subst, ◌∙◌, length, map, vec_len}
 use Rattle.std.proofs.lemmas.List.{length-map}
 use Rattle.std.proofs.lemmas.List.FromFn.{length-range_with_len}
 use Rattle.pls_archive.specs.View.{View, IsConsistent, new_view}
@@ -44,10 +44,10 @@ spread-left-requires-clause-fresh g c κs within =
     (omega (arith, many_desks, c.requires.count.0, c.requires.even.2)) c.remove-3.ensures.value c.remove-3.ensures.items c.requires.new_desk_seats in
     let i = c.args.instance.now in
     let starts = map (point_of i) c.args.starts.now in
-    let before = hands (g.A.Shared.view c.remove.result) (g.P.Pool.account c.remove-2.result) (tally_of c.remove-3.result) in
+    let before = hands (g.A.Shared.view c.remove.result) (g.P.Pool.account c.remove-2.result) (tally_of c.remove-3.result) 0 0 in
     let w = c.submit_starts.new.worker in
-    let after = hands (g.A.Shared.view w.pass) (g.P.Pool.account w.pool_seat) (tally_of w.desk_seat) in
-    let new = IsNewWorker-made before 0 0 _ _ pass.0.2 seat.0.1 desk.0.tally in
+    let after = hands (g.A.Shared.view w.pass) (g.P.Pool.account w.pool_seat) (tally_of w.desk_seat) w.explored w.evaluated in
+    let new = IsNewWorker-made before 0 0 _ _ pass.0.2 seat.0.1 desk.0.tally refl refl in
     fresh-begun (g.A.Law.Rule.reply (g.A.Shared.number c.args.archive.now)) i starts (g.A.Shared.passes c.args.archive.now) before after new pass.0.2 _ c.submit_starts.result c.in-Ok.is c.submit_starts.ensures.submits
 
 pub spread-left-requires-clause-alone : goal.spread-left-requires-clause-alone
@@ -143,8 +143,8 @@ finish-requires-clause-all g c κs within =
       all.1 ∙ (c.remove.ensures.len ∙ (sym even.3 ∙ sym c.spread-left.ensures.seats.1.seats_are)),
     )
 
-pub returns-in-Ok-clause-run : goal.returns-in-Ok-clause-run
-returns-in-Ok-clause-run g c =
+pub returns-in-Ok-clause-found : goal.returns-in-Ok-clause-found
+returns-in-Ok-clause-found g c =
     let many : vec_len c.args.passes ≡ length c.args.passes.items = search rules in
     let pass = Seated-removed (λ k p. g.A.Shared.belongs c.args.archive.now p × g.A.Shared.at_rest p × (g.A.Shared.view p ≡ new_view k) × (¬ g.A.Shared.shows_full p))
     c.args.passes.items c.remove.new.self.items c.remove.result (omega (arith, many, c.requires.count.0)) c.remove.ensures.value c.remove.ensures.items c.requires.new_passes in
@@ -156,20 +156,21 @@ returns-in-Ok-clause-run g c =
     (omega (arith, many_desks, c.requires.count.0, c.requires.even.2)) c.remove-3.ensures.value c.remove-3.ensures.items c.requires.new_desk_seats in
     let i = c.args.instance.now in
     let starts = map (point_of i) c.args.starts.now in
-    let before = hands (g.A.Shared.view c.remove.result) (g.P.Pool.account c.remove-2.result) (tally_of c.remove-3.result) in
+    let before = hands (g.A.Shared.view c.remove.result) (g.P.Pool.account c.remove-2.result) (tally_of c.remove-3.result) 0 0 in
     let w = c.submit_starts.new.worker in
-    let after = hands (g.A.Shared.view w.pass) (g.P.Pool.account w.pool_seat) (tally_of w.desk_seat) in
-    let new = IsNewWorker-made before 0 0 _ _ pass.0.2 seat.0.1 desk.0.tally in
+    let after = hands (g.A.Shared.view w.pass) (g.P.Pool.account w.pool_seat) (tally_of w.desk_seat) w.explored w.evaluated in
+    let new = IsNewWorker-made before 0 0 _ _ pass.0.2 seat.0.1 desk.0.tally refl refl in
     let small : IsSmall starts c.args.desk.now.moves = record { few_starts = omega (arith, length-map c.args.starts.now (point_of i), c.requires.starts.2); few_moves = search rules } in
     let goes = subst (λ e. GoesOn (g.A.Law.Rule.reply (g.A.Shared.number c.args.archive.now)) (g.A.Shared.passes c.args.archive.now) (causes_of e) before after) c.in-Ok.is c.submit_starts.ensures.goes_on in
-    let all_set = ready (g.A.Law.Rule.reply (g.A.Shared.number c.args.archive.now)) i starts (g.A.Shared.passes c.args.archive.now) before after new pass.0.2 _ c.submit_starts.result c.in-Ok.is c.submit_starts.ensures.submits goes (ap (λ (t : Tally). t.halts) desk.0.tally) in
+    let all_set = ready (g.A.Law.Rule.reply (g.A.Shared.number c.args.archive.now)) i starts (g.A.Shared.passes c.args.archive.now) before after new pass.0.2 _ c.submit_starts.result c.in-Ok.is c.submit_starts.ensures.submits goes (ap (λ (t : Tally). t.halts) desk.0.tally)
+    seat.0.1.waiting (λ some one. c.submit_starts.ensures.in_line some (c.requires.even.1 ∙ (sym c.requires.even.3 ∙ (sym c.submit_starts.ensures.seats.1.seats_are ∙ one)))) in
     let l = c.spread-left.result in
-    let left = hands (g.A.Shared.view l.worker.pass) (g.P.Pool.account l.worker.pool_seat) (tally_of l.worker.desk_seat) in
-    c.finish.ensures.run starts small
+    let left = hands (g.A.Shared.view l.worker.pass) (g.P.Pool.account l.worker.pool_seat) (tally_of l.worker.desk_seat) l.worker.explored l.worker.evaluated in
+    c.finish.ensures.found starts small
     (subst (λ n. Leaves IsUnhalted i starts n l.end left) (c.remove.ensures.len ∙ sym c.requires.count.2) (c.spread-left.ensures.leaves starts all_set))
 
-pub returns-in-Err-clause-run : goal.returns-in-Err-clause-run
-returns-in-Err-clause-run g c =
+pub returns-in-Err-clause-found : goal.returns-in-Err-clause-found
+returns-in-Err-clause-found g c =
     let many : vec_len c.args.passes ≡ length c.args.passes.items = search rules in
     let pass = Seated-removed (λ k p. g.A.Shared.belongs c.args.archive.now p × g.A.Shared.at_rest p × (g.A.Shared.view p ≡ new_view k) × (¬ g.A.Shared.shows_full p))
     c.args.passes.items c.remove.new.self.items c.remove.result (omega (arith, many, c.requires.count.0)) c.remove.ensures.value c.remove.ensures.items c.requires.new_passes in
@@ -181,13 +182,14 @@ returns-in-Err-clause-run g c =
     (omega (arith, many_desks, c.requires.count.0, c.requires.even.2)) c.remove-3.ensures.value c.remove-3.ensures.items c.requires.new_desk_seats in
     let i = c.args.instance.now in
     let starts = map (point_of i) c.args.starts.now in
-    let before = hands (g.A.Shared.view c.remove.result) (g.P.Pool.account c.remove-2.result) (tally_of c.remove-3.result) in
+    let before = hands (g.A.Shared.view c.remove.result) (g.P.Pool.account c.remove-2.result) (tally_of c.remove-3.result) 0 0 in
     let w = c.submit_starts.new.worker in
-    let after = hands (g.A.Shared.view w.pass) (g.P.Pool.account w.pool_seat) (tally_of w.desk_seat) in
-    let new = IsNewWorker-made before 0 0 _ _ pass.0.2 seat.0.1 desk.0.tally in
+    let after = hands (g.A.Shared.view w.pass) (g.P.Pool.account w.pool_seat) (tally_of w.desk_seat) w.explored w.evaluated in
+    let new = IsNewWorker-made before 0 0 _ _ pass.0.2 seat.0.1 desk.0.tally refl refl in
     let small : IsSmall starts c.args.desk.now.moves = record { few_starts = omega (arith, length-map c.args.starts.now (point_of i), c.requires.starts.2); few_moves = search rules } in
     let submits = c.submit_starts.ensures.submits in
     let end = c.submit_starts.result in
-    c.give_up.ensures.run starts small
+    c.give_up.ensures.found starts small
     (λ other. lacking (g.A.Law.Rule.reply (g.A.Shared.number c.args.archive.now)) i starts (g.A.Shared.passes c.args.archive.now) before after new pass.0.2 end _ (is_full (g.A.Law.Rule.reply (g.A.Shared.number c.args.archive.now)) i starts (g.A.Shared.passes c.args.archive.now) before after new pass.0.2 end _ c.in-Err.is submits other) submits
-    c.submit_starts.ensures.goes_on)
+    c.submit_starts.ensures.goes_on seat.0.1.waiting
+    (λ some one. c.submit_starts.ensures.in_line some (c.requires.even.1 ∙ (sym c.requires.even.3 ∙ (sym c.submit_starts.ensures.seats.1.seats_are ∙ one)))))

@@ -27,10 +27,10 @@ returns-clause-lacks g t c =
     let w = c.gather-worker.result in
     let o = c.in-Some.other in
     let r = c.join.new.worker in
-    let before = hands (g.A.Shared.view w.pass) (g.P.Pool.account w.pool_seat) (tally_of w.desk_seat) in
-    let other = hands (g.A.Shared.view o.pass) (g.P.Pool.account o.pool_seat) (tally_of o.desk_seat) in
-    let after = hands (g.A.Shared.view r.pass) (g.P.Pool.account r.pool_seat) (tally_of r.desk_seat) in
-    let new = IsNewWorker-made other _ _ _ _ c.in-Some.ensures.pass.2 c.in-Some.ensures.seat.1 c.in-Some.ensures.desk_seat.tally in
+    let before = hands (g.A.Shared.view w.pass) (g.P.Pool.account w.pool_seat) (tally_of w.desk_seat) w.explored w.evaluated in
+    let other = hands (g.A.Shared.view o.pass) (g.P.Pool.account o.pool_seat) (tally_of o.desk_seat) o.explored o.evaluated in
+    let after = hands (g.A.Shared.view r.pass) (g.P.Pool.account r.pool_seat) (tally_of r.desk_seat) r.explored r.evaluated in
+    let new = IsNewWorker-made other _ _ _ _ c.in-Some.ensures.pass.2 c.in-Some.ensures.seat.1 c.in-Some.ensures.desk_seat.tally c.in-Some.ensures.uncounted.0 c.in-Some.ensures.uncounted.1 in
     λ starts of.
     gathered c.args.self.now.instance.now starts _ _ before other after c.in-Some.ensures.count (c.gather-worker.ensures.lacks starts of) new
     c.in-Some.ensures.pass.2 c.join.ensures.joins

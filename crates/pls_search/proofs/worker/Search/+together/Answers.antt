@@ -14,7 +14,7 @@ returns-in_default-clause-leaves g t c = λ starts ready.
     let end = c.depart.result.end in
     let left = c.depart.result.worker in
     let one : 1 ≡ vec_len c.args.crew.passes + 1 = omega (arith, c.in_default.ensures.count) in
-    subst (λ n. Leaves IsUnhalted i starts n end (hands (g.A.Shared.view left.pass) (g.P.Pool.account left.pool_seat) (tally_of left.desk_seat))) one
+    subst (λ n. Leaves IsUnhalted i starts n end (hands (g.A.Shared.view left.pass) (g.P.Pool.account left.pool_seat) (tally_of left.desk_seat) left.explored left.evaluated)) one
     (Leaves-departed _ i starts _ 1 _ _ tt end c.depart.ensures.departs ready)
 
 pub take_over-requires-clause-apart : goal.take_over-requires-clause-apart
@@ -47,12 +47,12 @@ returns-clause-leaves g t c = λ starts ready.
     let other = c.match-started.other in
     let after = c.take_over.result in
     let departs : Departs reply i (g.A.Shared.passes c.args.self.now.archive.now) other.end
-    (hands (g.A.Shared.view new.pass) (g.P.Pool.account new.pool_seat) (tally_of new.desk_seat))
-    (hands (g.A.Shared.view other.worker.pass) (g.P.Pool.account other.worker.pool_seat) (tally_of other.worker.desk_seat)) = search rules in
+    (hands (g.A.Shared.view new.pass) (g.P.Pool.account new.pool_seat) (tally_of new.desk_seat) new.explored new.evaluated)
+    (hands (g.A.Shared.view other.worker.pass) (g.P.Pool.account other.worker.pool_seat) (tally_of other.worker.desk_seat) other.worker.explored other.worker.evaluated) = search rules in
     let view = c.in-Some.ensures.pass.2 in
     let account = c.in-Some.ensures.seat.1 in
     let tally = c.in-Some.ensures.desk_seat.tally in
-    let fresh : IsNewWorker (hands (g.A.Shared.view new.pass) (g.P.Pool.account new.pool_seat) (tally_of new.desk_seat)) = record {
+    let fresh : IsNewWorker (hands (g.A.Shared.view new.pass) (g.P.Pool.account new.pool_seat) (tally_of new.desk_seat) new.explored new.evaluated) = record {
       own = ap (λ (v : View). v.own) view;
       put = account.put;
       taken = account.taken;
@@ -60,10 +60,12 @@ returns-clause-leaves g t c = λ starts ready.
       done = ap (λ (x : Tally). x.done) tally;
       draws = ap (λ (x : Tally). x.draws) tally;
       goes = ap (λ (x : Tally). x.goes) tally;
+      explored = c.in-Some.ensures.uncounted.0;
+      evaluated = c.in-Some.ensures.uncounted.1;
     } in
-    let leaves = subst (λ n. Leaves IsUnhalted i starts n first.end (hands (g.A.Shared.view first.worker.pass) (g.P.Pool.account first.worker.pool_seat) (tally_of first.worker.desk_seat)))
+    let leaves = subst (λ n. Leaves IsUnhalted i starts n first.end (hands (g.A.Shared.view first.worker.pass) (g.P.Pool.account first.worker.pool_seat) (tally_of first.worker.desk_seat) first.worker.explored first.worker.evaluated))
     c.in-Some.ensures.count (c.together-left.ensures.leaves starts ready) in
-    subst (λ end. Leaves IsUnhalted i starts (vec_len c.args.crew.passes + 1) end (hands (g.A.Shared.view after.worker.pass) (g.P.Pool.account after.worker.pool_seat) (tally_of after.worker.desk_seat)))
+    subst (λ end. Leaves IsUnhalted i starts (vec_len c.args.crew.passes + 1) end (hands (g.A.Shared.view after.worker.pass) (g.P.Pool.account after.worker.pool_seat) (tally_of after.worker.desk_seat) after.worker.explored after.worker.evaluated))
     (sym c.take_over.ensures.end)
     (Leaves-joined reply i starts _ (vec_len c.args.crew.passes) _ _ _ _ fresh view (ap (λ (x : Tally). x.halts) tally) c.take_over.ensures.joins
     first.end other.end departs leaves)

@@ -13,7 +13,7 @@ use Rattle.pls_search.proofs.worker.Search.submit_all.Goals as goal
 
 pub loop-sol-init : goal.loop-sol-init
 loop-sol-init g c =
-    let start = hands (g.A.Shared.view c.args.worker.now.pass) (g.P.Pool.account c.args.worker.now.pool_seat) (tally_of c.args.worker.now.desk_seat) in
+    let start = hands (g.A.Shared.view c.args.worker.now.pass) (g.P.Pool.account c.args.worker.now.pool_seat) (tally_of c.args.worker.now.desk_seat) c.args.worker.now.explored c.args.worker.now.evaluated in
     record {
       pass = c.requires.pass;
       seats = c.requires.seats;
@@ -26,9 +26,9 @@ loop-sol-init g c =
 pub loop-sol-preserved : goal.loop-sol-preserved
 loop-sol-preserved g c =
     let i = c.args.self.now.instance.now in
-    let before = hands (g.A.Shared.view c.args.worker.now.pass) (g.P.Pool.account c.args.worker.now.pool_seat) (tally_of c.args.worker.now.desk_seat) in
-    let now = hands (g.A.Shared.view c.loop-sol.worker.pass) (g.P.Pool.account c.loop-sol.worker.pool_seat) (tally_of c.loop-sol.worker.desk_seat) in
-    let after = hands (g.A.Shared.view c.submit.new.worker.pass) (g.P.Pool.account c.submit.new.worker.pool_seat) (tally_of c.submit.new.worker.desk_seat) in
+    let before = hands (g.A.Shared.view c.args.worker.now.pass) (g.P.Pool.account c.args.worker.now.pool_seat) (tally_of c.args.worker.now.desk_seat) c.args.worker.now.explored c.args.worker.now.evaluated in
+    let now = hands (g.A.Shared.view c.loop-sol.worker.pass) (g.P.Pool.account c.loop-sol.worker.pool_seat) (tally_of c.loop-sol.worker.desk_seat) c.loop-sol.worker.explored c.loop-sol.worker.evaluated in
+    let after = hands (g.A.Shared.view c.submit.new.worker.pass) (g.P.Pool.account c.submit.new.worker.pool_seat) (tally_of c.submit.new.worker.desk_seat) c.submit.new.worker.explored c.submit.new.worker.evaluated in
     let so_far = c.loop-sol.invariant in
     let sol = c.sol-item.result in
     let sols = c.args.starts.now in
@@ -54,9 +54,9 @@ loop-sol-preserved g c =
 pub returns-in_err-submit-clause-submits : goal.returns-in_err-submit-clause-submits
 returns-in_err-submit-clause-submits g c =
     let i = c.args.self.now.instance.now in
-    let before = hands (g.A.Shared.view c.args.worker.now.pass) (g.P.Pool.account c.args.worker.now.pool_seat) (tally_of c.args.worker.now.desk_seat) in
-    let now = hands (g.A.Shared.view c.loop-sol.worker.pass) (g.P.Pool.account c.loop-sol.worker.pool_seat) (tally_of c.loop-sol.worker.desk_seat) in
-    let after = hands (g.A.Shared.view c.submit.new.worker.pass) (g.P.Pool.account c.submit.new.worker.pool_seat) (tally_of c.submit.new.worker.desk_seat) in
+    let before = hands (g.A.Shared.view c.args.worker.now.pass) (g.P.Pool.account c.args.worker.now.pool_seat) (tally_of c.args.worker.now.desk_seat) c.args.worker.now.explored c.args.worker.now.evaluated in
+    let now = hands (g.A.Shared.view c.loop-sol.worker.pass) (g.P.Pool.account c.loop-sol.worker.pool_seat) (tally_of c.loop-sol.worker.desk_seat) c.loop-sol.worker.explored c.loop-sol.worker.evaluated in
+    let after = hands (g.A.Shared.view c.submit.new.worker.pass) (g.P.Pool.account c.submit.new.worker.pool_seat) (tally_of c.submit.new.worker.desk_seat) c.submit.new.worker.explored c.submit.new.worker.evaluated in
     let sols = c.args.starts.now in
     let all = map (point_of i) sols in
     let k = c.loop-sol.sol-index in
@@ -71,8 +71,8 @@ returns-in_err-submit-clause-submits g c =
 pub returns-clause-submits : goal.returns-clause-submits
 returns-clause-submits g c =
     let i = c.args.self.now.instance.now in
-    let before = hands (g.A.Shared.view c.args.worker.now.pass) (g.P.Pool.account c.args.worker.now.pool_seat) (tally_of c.args.worker.now.desk_seat) in
-    let now = hands (g.A.Shared.view c.loop-sol.worker.pass) (g.P.Pool.account c.loop-sol.worker.pool_seat) (tally_of c.loop-sol.worker.desk_seat) in
+    let before = hands (g.A.Shared.view c.args.worker.now.pass) (g.P.Pool.account c.args.worker.now.pool_seat) (tally_of c.args.worker.now.desk_seat) c.args.worker.now.explored c.args.worker.now.evaluated in
+    let now = hands (g.A.Shared.view c.loop-sol.worker.pass) (g.P.Pool.account c.loop-sol.worker.pool_seat) (tally_of c.loop-sol.worker.desk_seat) c.loop-sol.worker.explored c.loop-sol.worker.evaluated in
     let sols = c.args.starts.now in
     let all = map (point_of i) sols in
     let k = c.loop-sol.sol-index in

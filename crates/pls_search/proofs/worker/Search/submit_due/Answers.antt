@@ -1,4 +1,4 @@
-use Rattle.std.proofs.Common.{◌≡◌, ◌≤◌, ◌<◌, ℕ, nat_le, Bool, true, false, ◌&&◌, [], ◌∷◌, refl, arith, le-leb}
+use Rattle.std.proofs.Common.{◌≡◌, ◌≤◌, ◌<◌, ℕ, nat_le, Bool, true, false, ◌&&◌, [], ◌∷◌, refl, subst, arith, rules, le-leb}
 use Rattle.std.proofs.lemmas.Bool.{leb-true}
 use Rattle.pls_archive.specs.declared.call.Call.TheVariants.{Member}
 use Rattle.pls_archive.specs.declared.call.Entry.{Entry}
@@ -6,8 +6,9 @@ use Rattle.pls_archive.specs.Archives.{yes_or_no}
 use Rattle.pls_archive.specs.Explorations.{is_no, skips}
 use Rattle.pls_pool.specs.DeskSeats.{tally_of}
 use Rattle.pls_search.specs.Workers.{task_of, hands, Did}
-use Rattle.pls_search.proofs.Moments.{SameCounts-self, Did-entries}
-use Rattle.pls_search.proofs.Neighbourhoods.{ExploresTask-skipped, ExploresTask-by_end}
+use Rattle.pls_search.specs.Steps.{UnlessMemory, ExploresTask}
+use Rattle.pls_search.proofs.Moments.{SameCounts-self, Did-entries, Did-counted}
+use Rattle.pls_search.proofs.Neighbourhoods.{ExploresTask-skipped, ExploresTask-due, ExploresTask-cut}
 use Rattle.pls_search.proofs.worker.Search.submit_due.Goals.{else-not-is_member-via-then-not-is_member+else-task-stamp, else-not-is_member-via-else-not-is_member}
 use Rattle.pls_search.proofs.worker.Search.submit_due.Goals as goal
 
@@ -30,25 +31,45 @@ keeps-early false n m early = not_late (nat_le n m) (λ (is : nat_le n m ≡ tru
 
 pub returns-then-task-stamp-clause-explores : goal.returns-then-task-stamp-clause-explores
 returns-then-task-stamp-clause-explores g c =
-    let before = hands (g.A.Shared.view c.args.worker.now.pass) (g.P.Pool.account c.args.worker.now.pool_seat) (tally_of c.args.worker.now.desk_seat) in
-    let after = hands (g.A.Shared.view c.member-is_member.new.pass) (g.P.Pool.account c.args.worker.now.pool_seat) (tally_of c.args.worker.now.desk_seat) in
+    let before = hands (g.A.Shared.view c.args.worker.now.pass) (g.P.Pool.account c.args.worker.now.pool_seat) (tally_of c.args.worker.now.desk_seat) c.args.worker.now.explored c.args.worker.now.evaluated in
+    let after = hands (g.A.Shared.view c.member-is_member.new.pass) (g.P.Pool.account c.args.worker.now.pool_seat) (tally_of c.args.worker.now.desk_seat) c.args.worker.now.explored c.args.worker.now.evaluated in
     let t = task_of c.args.task.now in
     let answer = c.member-is_member.result in
     let asked : Entry = record { caller = before.view.number; stamp = answer.1; call = Member t.point.value; reply = yes_or_no answer.0 } in
-    let did : Did (asked ∷ []) [] 0 0 0 before after = Did-entries (asked ∷ []) before after refl c.member-is_member.ensures.answers.extends.own refl (SameCounts-self before.tally) in
+    let did : Did (asked ∷ []) [] 0 0 0 0 0 before after = Did-entries (asked ∷ []) before after refl c.member-is_member.ensures.answers.extends.own refl (SameCounts-self before.tally) refl refl in
     ExploresTask-skipped c.args.self.now.instance.now t asked refl before after (skips-late answer.0 t.stamp answer.1 c.if-not-is_member.true c.if-task-stamp.true) did
 
 pub returns-clause-explores : goal.returns-clause-explores
 returns-clause-explores g c =
-    let before = hands (g.A.Shared.view c.args.worker.now.pass) (g.P.Pool.account c.args.worker.now.pool_seat) (tally_of c.args.worker.now.desk_seat) in
-    let between = hands (g.A.Shared.view c.member-is_member.new.pass) (g.P.Pool.account c.args.worker.now.pool_seat) (tally_of c.args.worker.now.desk_seat) in
-    let after = hands (g.A.Shared.view c.submit_neighbours.new.worker.pass) (g.P.Pool.account c.submit_neighbours.new.worker.pool_seat) (tally_of c.submit_neighbours.new.worker.desk_seat) in
+    let before = hands (g.A.Shared.view c.args.worker.now.pass) (g.P.Pool.account c.args.worker.now.pool_seat) (tally_of c.args.worker.now.desk_seat) c.args.worker.now.explored c.args.worker.now.evaluated in
+    let between = hands (g.A.Shared.view c.member-is_member.new.pass) (g.P.Pool.account c.args.worker.now.pool_seat) (tally_of c.args.worker.now.desk_seat) c.args.worker.now.explored c.args.worker.now.evaluated in
+    let after = hands (g.A.Shared.view c.submit_neighbours.new.worker.pass) (g.P.Pool.account c.submit_neighbours.new.worker.pool_seat) (tally_of c.submit_neighbours.new.worker.desk_seat) c.submit_neighbours.new.worker.explored c.submit_neighbours.new.worker.evaluated in
     let t = task_of c.args.task.now in
     let answer = c.member-is_member.result in
     let asked : Entry = record { caller = before.view.number; stamp = answer.1; call = Member t.point.value; reply = yes_or_no answer.0 } in
-    let did : Did (asked ∷ []) [] 0 0 0 before between = Did-entries (asked ∷ []) before between refl c.member-is_member.ensures.answers.extends.own refl (SameCounts-self before.tally) in
+    let did : Did (asked ∷ []) [] 0 0 0 0 0 before between = Did-entries (asked ∷ []) before between refl c.member-is_member.ensures.answers.extends.own refl (SameCounts-self before.tally) refl refl in
     let keeps : skips t asked ≡ false = elim c.else-not-is_member.branch [
       | else-not-is_member-via-then-not-is_member+else-task-stamp w ↦ keeps-early answer.0 t.stamp answer.1 w.if-task-stamp.false
       | else-not-is_member-via-else-not-is_member w ↦ keeps-member answer.0 t.stamp answer.1 w.if-not-is_member.false
     ] in
-    ExploresTask-by_end c.args.self.now.instance.now t asked refl before between after c.submit_neighbours.result keeps did c.submit_neighbours.ensures.submits
+    ExploresTask-due c.args.self.now.instance.now t asked refl before between after _ false false keeps did c.in_ok-submit_neighbours.ensures.submits
+    (Did-counted after _ (search rules))
+
+pub returns-in_err-submit_neighbours-clause-explores : goal.returns-in_err-submit_neighbours-clause-explores
+returns-in_err-submit_neighbours-clause-explores g c =
+    let before = hands (g.A.Shared.view c.args.worker.now.pass) (g.P.Pool.account c.args.worker.now.pool_seat) (tally_of c.args.worker.now.desk_seat) c.args.worker.now.explored c.args.worker.now.evaluated in
+    let between = hands (g.A.Shared.view c.member-is_member.new.pass) (g.P.Pool.account c.args.worker.now.pool_seat) (tally_of c.args.worker.now.desk_seat) c.args.worker.now.explored c.args.worker.now.evaluated in
+    let after = hands (g.A.Shared.view c.submit_neighbours.new.worker.pass) (g.P.Pool.account c.submit_neighbours.new.worker.pool_seat) (tally_of c.submit_neighbours.new.worker.desk_seat) c.submit_neighbours.new.worker.explored c.submit_neighbours.new.worker.evaluated in
+    let t = task_of c.args.task.now in
+    let answer = c.member-is_member.result in
+    let asked : Entry = record { caller = before.view.number; stamp = answer.1; call = Member t.point.value; reply = yes_or_no answer.0 } in
+    let did : Did (asked ∷ []) [] 0 0 0 0 0 before between = Did-entries (asked ∷ []) before between refl c.member-is_member.ensures.answers.extends.own refl (SameCounts-self before.tally) refl refl in
+    let keeps : skips t asked ≡ false = elim c.else-not-is_member.branch [
+      | else-not-is_member-via-then-not-is_member+else-task-stamp w ↦ keeps-early answer.0 t.stamp answer.1 w.if-task-stamp.false
+      | else-not-is_member-via-else-not-is_member w ↦ keeps-member answer.0 t.stamp answer.1 w.if-not-is_member.false
+    ] in
+    let i = c.args.self.now.instance.now in
+    let end = c.submit_neighbours.result in
+    let same : end ≡ c.from_residual.result = search rules in
+    subst (λ e. UnlessMemory e (ExploresTask i t 0 before after)) same
+    (ExploresTask-cut i t asked refl before between after end _ c.in_err-submit_neighbours.was keeps did c.submit_neighbours.ensures.submits)

@@ -11,7 +11,7 @@ use Rattle.pls_search.proofs.worker.Search.submit_neighbours.Goals as goal
 
 pub loop-value-init : goal.loop-value-init
 loop-value-init g c =
-    let start = hands (g.A.Shared.view c.args.worker.now.pass) (g.P.Pool.account c.args.worker.now.pool_seat) (tally_of c.args.worker.now.desk_seat) in
+    let start = hands (g.A.Shared.view c.args.worker.now.pass) (g.P.Pool.account c.args.worker.now.pool_seat) (tally_of c.args.worker.now.desk_seat) c.args.worker.now.explored c.args.worker.now.evaluated in
     record {
       walk = c.walk-walk.ensures.made;
       pass = c.requires.pass;
@@ -26,9 +26,9 @@ loop-value-init g c =
 pub loop-value-preserved : goal.loop-value-preserved
 loop-value-preserved g c =
     let i = c.args.self.now.instance.now in
-    let before = hands (g.A.Shared.view c.args.worker.now.pass) (g.P.Pool.account c.args.worker.now.pool_seat) (tally_of c.args.worker.now.desk_seat) in
-    let now = hands (g.A.Shared.view c.loop-value.worker.pass) (g.P.Pool.account c.loop-value.worker.pool_seat) (tally_of c.loop-value.worker.desk_seat) in
-    let after = hands (g.A.Shared.view c.submit_neighbour.new.worker.pass) (g.P.Pool.account c.submit_neighbour.new.worker.pool_seat) (tally_of c.submit_neighbour.new.worker.desk_seat) in
+    let before = hands (g.A.Shared.view c.args.worker.now.pass) (g.P.Pool.account c.args.worker.now.pool_seat) (tally_of c.args.worker.now.desk_seat) c.args.worker.now.explored c.args.worker.now.evaluated in
+    let now = hands (g.A.Shared.view c.loop-value.worker.pass) (g.P.Pool.account c.loop-value.worker.pool_seat) (tally_of c.loop-value.worker.desk_seat) c.loop-value.worker.explored c.loop-value.worker.evaluated in
+    let after = hands (g.A.Shared.view c.submit_neighbour.new.worker.pass) (g.P.Pool.account c.submit_neighbour.new.worker.pool_seat) (tally_of c.submit_neighbour.new.worker.desk_seat) c.submit_neighbour.new.worker.explored c.submit_neighbour.new.worker.evaluated in
     let so_far = c.loop-value.invariant in
     let v = c.in-Some.value in
     let s = current c.next_value.new.walk in
@@ -49,9 +49,9 @@ loop-value-preserved g c =
 pub returns-in_err-submit_neighbour-clause-submits : goal.returns-in_err-submit_neighbour-clause-submits
 returns-in_err-submit_neighbour-clause-submits g c =
     let i = c.args.self.now.instance.now in
-    let before = hands (g.A.Shared.view c.args.worker.now.pass) (g.P.Pool.account c.args.worker.now.pool_seat) (tally_of c.args.worker.now.desk_seat) in
-    let now = hands (g.A.Shared.view c.loop-value.worker.pass) (g.P.Pool.account c.loop-value.worker.pool_seat) (tally_of c.loop-value.worker.desk_seat) in
-    let after = hands (g.A.Shared.view c.submit_neighbour.new.worker.pass) (g.P.Pool.account c.submit_neighbour.new.worker.pool_seat) (tally_of c.submit_neighbour.new.worker.desk_seat) in
+    let before = hands (g.A.Shared.view c.args.worker.now.pass) (g.P.Pool.account c.args.worker.now.pool_seat) (tally_of c.args.worker.now.desk_seat) c.args.worker.now.explored c.args.worker.now.evaluated in
+    let now = hands (g.A.Shared.view c.loop-value.worker.pass) (g.P.Pool.account c.loop-value.worker.pool_seat) (tally_of c.loop-value.worker.desk_seat) c.loop-value.worker.explored c.loop-value.worker.evaluated in
+    let after = hands (g.A.Shared.view c.submit_neighbour.new.worker.pass) (g.P.Pool.account c.submit_neighbour.new.worker.pool_seat) (tally_of c.submit_neighbour.new.worker.desk_seat) c.submit_neighbour.new.worker.explored c.submit_neighbour.new.worker.evaluated in
     let so_far = c.loop-value.invariant in
     let v = c.in-Some.value in
     let s = current c.next_value.new.walk in

@@ -7,8 +7,8 @@ use Rattle.pls_search.proofs.worker.Search.work.Given as goal
 
 abbrev pub invariant-loop : goal.invariant-loop
 invariant-loop g l =
-    let before = hands (g.A.Shared.view l.fn.worker.pass) (g.P.Pool.account l.fn.worker.pool_seat) (tally_of l.fn.worker.desk_seat) in
-    let now = hands (g.A.Shared.view l.worker.pass) (g.P.Pool.account l.worker.pool_seat) (tally_of l.worker.desk_seat) in
+    let before = hands (g.A.Shared.view l.fn.worker.pass) (g.P.Pool.account l.fn.worker.pool_seat) (tally_of l.fn.worker.desk_seat) l.fn.worker.explored l.fn.worker.evaluated in
+    let now = hands (g.A.Shared.view l.worker.pass) (g.P.Pool.account l.worker.pool_seat) (tally_of l.worker.desk_seat) l.worker.explored l.worker.evaluated in
     record {
       pass : g.A.Shared.belongs l.self.archive.now l.worker.pass × g.A.Shared.at_rest l.worker.pass;
       seats : g.P.Pool.belongs l.self.pool.now l.worker.pool_seat × IsDeskSeatOf l.self.desk.now l.worker.desk_seat;
