@@ -1,11 +1,8 @@
 mod Worked
 mod Joined
 mod Writing
+mod Dues
 mod Endings
 mod Serving
-mod KnapsackPoints
 mod Fronts
-mod SearchCalls
-mod SearchRuns
-mod SearchTasks
-mod SearchOutcome
+mod Found

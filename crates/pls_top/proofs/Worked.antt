@@ -1,5 +1,5 @@
 -- The runs and the texts of small instances, computed.
-use Rattle.std.specs.Prelude.{◌≡◌, ℕ, true, List, [], ◌∷◌, None, codes}
+use Rattle.std.specs.Prelude.{◌≡◌, ℕ, true, nat_lt, if◌then◌else◌, List, [], ◌∷◌, length, map, None, codes}
 use Rattle.std.specs.Fmt.{digits}
 use Rattle.std.proofs.Common.{refl}
 use Rattle.pls_vectors.specs.Solution.{Solution, no_items, with_item, byte, with_byte, entry, with_entry, with_entries, stored, swapped, reversed}
@@ -13,19 +13,37 @@ use Rattle.pls_problem.specs.declared.instance.Instance.TheVariants.{Knapsack, A
 use Rattle.pls_problem.specs.declared.reader.BadInstance.TheVariants.{Short, Range}
 use Rattle.pls_problem.specs.Instance.{value as value_of, neighbours as neighbours_of}
 use Rattle.pls_top.specs.declared.status.Status.TheVariants.{Usage}
-use Rattle.pls_top.specs.Sequential.{run_from, front_of, counts_of, end_of}
+use Rattle.pls_archive.specs.History.{accepting}
+use Rattle.pls_archive.specs.Reply.{nondominated}
+use Rattle.pls_archive.specs.Explorations.{entries_of_run, cuts}
+use Rattle.pls_archive.specs.Sequential.{sequential_run}
+use Rattle.pls_search.specs.Neighbours.{point_of, neighbours_of as near}
+use Rattle.pls_search.specs.declared.end.End.TheVariants.{Closed, Stopped}
+use Rattle.pls_top.specs.Runs.{SearchRun, front_of, counts_of}
 use Rattle.pls_top.specs.Report.{report, demo_report}
 use Rattle.pls_top.specs.Due.{due, instance_line}
+use Rattle.pls_top.proofs.Dues.{no_run}
 
--- the text of the sequential run from these starts
+-- the sequential run from these starts, stopped where an exploration was cut
+abbrev run_from : Instance → List Solution → ℕ → SearchRun
+run_from i sols moves =
+    let first = sequential_run nondominated (near i) (map (point_of i) sols) moves in
+    record {
+      accepting = length (accepting (entries_of_run first));
+      first = first;
+      others = [];
+      end = if nat_lt 0 (cuts (near i) (first ∷ [])) then Stopped else Closed;
+    }
+
+-- its text
 abbrev found : Instance → List Solution → ℕ → List ℕ
 found i sols moves =
-    let run = run_from i sols moves in report i (front_of run) (counts_of i run) (end_of i run)
+    let r = run_from i sols moves in report i (front_of r) (counts_of i r) r.end
 
 -- the same in three lines
 abbrev shown : Instance → List Solution → ℕ → List ℕ
 shown i sols moves =
-    let run = run_from i sols moves in demo_report i 9 (front_of run) (counts_of i run) (end_of i run)
+    let r = run_from i sols moves in demo_report i 9 (front_of r) (counts_of i r) r.end
 
 -- two items that fit together
 abbrev two : Instance
@@ -160,7 +178,7 @@ unfolding digits value_of neighbours_of tour.value tour.tour_length tour.place_o
 four_cities = refl
 
 -- lines of faults
-no_line : due None [] ≡ record { status = Usage; text = codes "error usage\n" }
+no_line : due None no_run [] ≡ record { status = Usage; text = codes "error usage\n" }
 no_line = refl
 
 short_line : instance_line (Short 16777216) ≡ codes "error instance short 16777216\n"

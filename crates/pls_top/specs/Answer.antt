@@ -7,7 +7,9 @@ use Rattle.pls_settings.specs.declared.choices.Mode.TheVariants.{Make}
 use Rattle.pls_settings.specs.declared.choices.Settings.{Settings}
 use Rattle.pls_top.specs.declared.status.Status.{Status}
 use Rattle.pls_top.specs.declared.status.Status.TheVariants.{Closed, Stopped, Usage, BadInstance, ReadFault, WriteFault, Full, Memory, TooLong}
-use Rattle.pls_top.specs.Due.{most_bytes, usage_line, read_line, too_long_line, instance_line, due, reads}
+use Rattle.pls_archive.specs.View.{View}
+use Rattle.pls_top.specs.Due.{most_bytes, usage_line, read_line, too_long_line, instance_line, due, searched_in, reads}
+use Rattle.pls_top.specs.Runs.{SearchRun, HasRun}
 
 -- the exit status of each answer
 abbrev pub code_of : Status → ℕ
@@ -41,6 +43,7 @@ AsksSource s status = ⊤
 abbrev pub TooLongExactly : Option Settings → List ℕ → Status → Type 0
 TooLongExactly s bytes Closed = reads s ≡ true → length bytes ≤ most_bytes
 TooLongExactly s bytes Stopped = reads s ≡ true → length bytes ≤ most_bytes
+TooLongExactly s bytes Full = reads s ≡ true → length bytes ≤ most_bytes
 TooLongExactly s bytes BadInstance = length bytes ≤ most_bytes
 TooLongExactly s bytes TooLong = most_bytes < length bytes
 TooLongExactly s bytes status = ⊤
@@ -49,6 +52,7 @@ TooLongExactly s bytes status = ⊤
 abbrev pub BadInstanceExactly : Option Settings → List ℕ → Status → Type 0
 BadInstanceExactly s bytes Closed = reads s ≡ true → IsOk (instance bytes)
 BadInstanceExactly s bytes Stopped = reads s ≡ true → IsOk (instance bytes)
+BadInstanceExactly s bytes Full = reads s ≡ true → IsOk (instance bytes)
 BadInstanceExactly s bytes BadInstance = IsErr (instance bytes)
 BadInstanceExactly s bytes status = ⊤
 
@@ -101,6 +105,7 @@ IsShortReadWhole left left' = (bytes : List ℕ) → left ≡ Some bytes → len
 abbrev pub ReadsAll : Option Settings → Type 0 → Option (List ℕ) → Option (List ℕ) → Status → Type 0
 ReadsAll s calm left left' Closed = reads s ≡ true → IsReadWhole left left'
 ReadsAll s calm left left' Stopped = reads s ≡ true → IsReadWhole left left'
+ReadsAll s calm left left' Full = reads s ≡ true → IsReadWhole left left'
 ReadsAll s calm left left' BadInstance = IsReadWhole left left'
 ReadsAll s calm left left' WriteFault = reads s ≡ true → calm → IsShortReadWhole left left'
 ReadsAll s calm left left' status = ⊤
@@ -142,3 +147,24 @@ WritesDueText read_failed due WriteFault =
     λ before after. WrittenInPart due before after ⊎ (read_failed × WrittenInPart read_line before after)
 WritesDueText read_failed due Memory = Written []
 WritesDueText read_failed due status = Written due
+
+-- ---- the run that was made
+
+-- where the words and the bytes ask for a search, it made this run
+abbrev pub Searches : Option Settings → List ℕ → Option View → SearchRun → Type 0
+Searches None bytes journal r = ⊤
+Searches (Some s) bytes journal r = HasRun s (searched_in s.mode s bytes) journal r
+
+-- the same of an answer: a search was made, unless memory ran out, or a read failed
+abbrev pub MadeRun : Option Settings → List ℕ → Type 0 → Option View → SearchRun → Status → Type 0
+MadeRun s bytes read_failed journal r ReadFault = ⊤
+MadeRun s bytes read_failed journal r Memory = ⊤
+MadeRun s bytes read_failed journal r WriteFault = (read_failed → ⊥) → Searches s bytes journal r
+MadeRun s bytes read_failed journal r status = Searches s bytes journal r
+
+-- The answer for these bytes: a run was made, where a search is asked for; what is due with it is the status, and was written.
+pub record AnswersWith (s : Option Settings) (bytes : List ℕ) (read_failed : Type 0) (journal : Option View) (result : Status)
+    (written written' : Option (List ℕ)) (r : SearchRun) : Type 0 where
+  pub made : MadeRun s bytes read_failed journal r result
+  pub status : AnswersDueStatus (due s r bytes).status result
+  pub text : (before : List ℕ) → written ≡ Some before → WritesDueText read_failed (due s r bytes).text result before written'

@@ -12,11 +12,11 @@ use Rattle.pls_settings.specs.declared.choices.Mode.{Mode}
 use Rattle.pls_settings.specs.declared.choices.Mode.TheVariants.{Search, Make, Demo}
 use Rattle.pls_settings.specs.declared.choices.Settings.{Settings}
 use Rattle.pls_top.specs.Report.{report, demo_report}
-use Rattle.pls_top.specs.Sequential.{run_of, front_of, counts_of, end_of}
-use Rattle.pls_top.specs.declared.report.End.{End}
-use Rattle.pls_top.specs.declared.report.End.TheVariants as end
+use Rattle.pls_search.specs.declared.end.End.{End}
+use Rattle.pls_search.specs.declared.end.End.TheVariants as end
+use Rattle.pls_top.specs.Runs.{SearchRun, front_of, counts_of}
 use Rattle.pls_top.specs.declared.status.Status.{Status}
-use Rattle.pls_top.specs.declared.status.Status.TheVariants.{Closed, Stopped, Usage, BadInstance, TooLong}
+use Rattle.pls_top.specs.declared.status.Status.TheVariants.{Closed, Stopped, Full, Usage, BadInstance, TooLong}
 
 -- the most bytes that are read
 abbrev pub most_bytes : ℕ
@@ -67,42 +67,51 @@ pub record Due : Type 0 where
 abbrev pub status_at : End → Status
 status_at end.Closed = Closed
 status_at end.Stopped = Stopped
+status_at end.Full = Full
 
--- a search on an instance: the front of its sequential run
-unfoldable pub searched : Settings → Instance → Due
-searched s i =
-    let run = run_of s i in
-    record { status = status_at (end_of i run); text = report i (front_of run) (counts_of i run) (end_of i run) }
+-- a search on an instance that made this run: its front
+unfoldable pub searched : Instance → SearchRun → Due
+searched i r = record { status = status_at r.end; text = report i (front_of r) (counts_of i r) r.end }
 
 -- the same in three lines, on the instance that the settings make
-unfoldable pub demonstrated : Settings → Due
-demonstrated s =
+unfoldable pub demonstrated : Settings → SearchRun → Due
+demonstrated s r =
     let i = made s.make in
-    let run = run_of s i in
-    record { status = status_at (end_of i run); text = demo_report i s.seed (front_of run) (counts_of i run) (end_of i run) }
+    record { status = status_at r.end; text = demo_report i s.seed (front_of r) (counts_of i r) r.end }
 
 -- the text of the instance that the settings make
 unfoldable pub written_out : Settings → Due
 written_out s = record { status = Closed; text = instance_text (made s.make) }
 
 -- a search on the instance that was read, or its fault
-abbrev pub due_for : Settings → Result Instance Fault → Due
-due_for s (Ok i) = searched s i
-due_for s (Err f) = record { status = BadInstance; text = instance_line f }
+abbrev pub due_for : SearchRun → Result Instance Fault → Due
+due_for r (Ok i) = searched i r
+due_for r (Err f) = record { status = BadInstance; text = instance_line f }
 
 -- by the mode, and the bytes that the source had left, which only a search asks for
-abbrev pub due_in : Mode → Settings → List ℕ → Due
-due_in Search s bytes =
+abbrev pub due_in : Mode → Settings → SearchRun → List ℕ → Due
+due_in Search s r bytes =
     if nat_le (length bytes) most_bytes
-    then due_for s (instance bytes)
+    then due_for r (instance bytes)
     else record { status = TooLong; text = too_long_line }
-due_in Make s bytes = written_out s
-due_in Demo s bytes = demonstrated s
+due_in Make s r bytes = written_out s
+due_in Demo s r bytes = demonstrated s r
 
--- for the settings of the words, if they have any, and the bytes that the source had left
-abbrev pub due : Option Settings → List ℕ → Due
-due None bytes = record { status = Usage; text = usage_line }
-due (Some s) bytes = due_in s.mode s bytes
+-- for the settings of the words, if they have any, the run that was made, if one was, and the bytes that the source had left
+abbrev pub due : Option Settings → SearchRun → List ℕ → Due
+due None r bytes = record { status = Usage; text = usage_line }
+due (Some s) r bytes = due_in s.mode s r bytes
+
+-- the instance that was read, if it is one
+abbrev pub instance_read : Result Instance Fault → Option Instance
+instance_read (Ok i) = Some i
+instance_read (Err f) = None
+
+-- the instance that is searched, if one is
+abbrev pub searched_in : Mode → Settings → List ℕ → Option Instance
+searched_in Search s bytes = if nat_le (length bytes) most_bytes then instance_read (instance bytes) else None
+searched_in Make s bytes = None
+searched_in Demo s bytes = Some (made s.make)
 
 -- only a search reads the source
 abbrev pub is_search : Mode → Bool

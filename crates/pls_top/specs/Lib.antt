@@ -1,7 +1,6 @@
-pub mod Sequential
+pub mod Runs
 pub mod Report
 pub mod Due
 pub mod Answer
 pub mod Ending
-pub mod Search
 pub mod Front

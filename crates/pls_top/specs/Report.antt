@@ -8,8 +8,8 @@ use Rattle.pls_problem.specs.declared.instance.Instance.{Instance}
 use Rattle.pls_problem.specs.Instance.{objectives, size, original, shown}
 use Rattle.pls_problem.specs.Kinds.{kind_name, kind_of}
 use Rattle.pls_top.specs.declared.report.Counts.{Counts}
-use Rattle.pls_top.specs.declared.report.End.{End}
-use Rattle.pls_top.specs.declared.report.End.TheVariants.{Closed, Stopped}
+use Rattle.pls_search.specs.declared.end.End.{End}
+use Rattle.pls_search.specs.declared.end.End.TheVariants.{Closed, Stopped, Full}
 
 -- numbers separated by spaces, or a dash for none
 abbrev pub numbers_or_dash : List ℕ → List ℕ
@@ -35,6 +35,7 @@ front_line i points =
 abbrev pub end_text : End → List ℕ
 end_text Closed = codes "closed"
 end_text Stopped = codes "stopped"
+end_text Full = codes "full"
 
 abbrev pub end_line : Counts → End → List ℕ
 end_line counts end =

@@ -6,6 +6,7 @@
 #![tactic(auto)]
 
 mod fault_line;
+mod journal;
 mod program;
 mod report;
 mod search;
@@ -13,7 +14,9 @@ mod status;
 #[cfg(test)]
 mod tests;
 
+pub use journal::Journal;
+pub use pls_search::{End, Gate, NoGate};
 pub use pls_settings::{ArgWords, Mode, Settings, SettingsRefusal, settings};
 pub use program::run;
-pub use report::{Counts, End, demo_text, report_text};
+pub use report::{Counts, demo_text, report_text};
 pub use status::Status;

@@ -6,6 +6,7 @@ ghost use Rattle.pls_top.specs.Report.{report, demo_report, front_line, demo_lin
 use pls_archive::{Point, PointList};
 use pls_io::push_word;
 use pls_problem::Instance;
+use pls_search::End;
 use pls_vectors::{Sol, Vector};
 use std::alloc::{AllocError, Global};
 
@@ -16,15 +17,6 @@ pub struct Counts {
     pub explored: u64,
     pub evaluated: u64,
     pub accepted: u64,
-}
-
-/// How a search ended.
-#[derive(Clone, Copy, Debug, PartialEq, Eq)]
-pub enum End {
-    /// Every accepted point was explored.
-    Closed,
-    /// The moves were spent before that.
-    Stopped,
 }
 
 /// The text of a search: a line on the front, a line for each of its points, and a line on the end.
@@ -155,6 +147,7 @@ fn write_end(text: &mut String, counts: Counts, end: End) -> Result<(), AllocErr
     let word = match end {
         End::Closed => "closed",
         End::Stopped => "stopped",
+        End::Full => "full",
     };
     let explored = counts.explored;
     let evaluated = counts.evaluated;

@@ -2,7 +2,7 @@ ghost use Rattle.std.specs.Prelude.{◌≡◌};
 ghost use Rattle.pls_top.specs.Answer.{code_of};
 ghost use Rattle.pls_top.specs.Due.{status_at};
 
-use crate::report::End;
+use pls_search::End;
 
 /// How a run ended. The number of each is the program's exit status.
 #[derive(Clone, Copy, Debug, PartialEq, Eq)]
@@ -19,7 +19,7 @@ pub enum Status {
     ReadFault,
     /// The sink failed; a proper prefix of the text was written.
     WriteFault,
-    /// Not answered yet: it is for archives of limited room.
+    /// The archive had no room for a point, and the front was written.
     Full,
     /// Memory ran out; nothing was written.
     Memory,
@@ -34,6 +34,7 @@ impl From<End> for Status {
         match end {
             End::Closed => Status::Closed,
             End::Stopped => Status::Stopped,
+            End::Full => Status::Full,
         }
     }
 }

@@ -1,9 +1,11 @@
 //! The program over streams in memory.
 
-use crate::{ArgWords, Status, run};
+use crate::{ArgWords, Journal, NoGate, Status, run};
 use pls_io::{MemSink, MemSource, read_all};
 use std::alloc::{AllocError, Global};
+use std::sync::Wait;
 use std::test::Fail;
+use std::thread::Threads;
 
 const TWO_ITEMS: &str = "pls1 knapsack 2 2 1\n10\n3 1\n1 3\n2 3\n";
 
@@ -29,8 +31,20 @@ fn spaces(alloc: Global, count: usize) -> Result<Vec<u8>, AllocError> {
     vec![in alloc; b' '; count]
 }
 
+/// Runs the program without a gate, and with a journal of its own.
+fn runs<R: Threads + Wait + Sync>(
+    rt: &R,
+    alloc: Global,
+    words: &ArgWords,
+    source: &mut MemSource,
+    sink: &mut MemSink,
+) -> Status {
+    run(rt, alloc, words, source, sink, &NoGate, &mut Journal::new())
+}
+
 /// What the program answers to these words with this text, and the sink that it wrote to.
-fn answered(
+fn answered<R: Threads + Wait + Sync>(
+    rt: &R,
     alloc: Global,
     words: &[&str],
     text: Vec<u8>,
@@ -39,7 +53,7 @@ fn answered(
     let words = words_of(alloc, words)?;
     let mut source = MemSource::new(text, read_fails);
     let mut sink = MemSink::new(alloc, 10_000, 1000, Vec::new(alloc))?;
-    let status = run(alloc, &words, &mut source, &mut sink);
+    let status = runs(rt, alloc, &words, &mut source, &mut sink);
     Ok((status, sink))
 }
 
@@ -212,9 +226,9 @@ const TEXTS: [(&[&str], &str, Status, &str); 29] = [
 fn answers_words_and_texts(rt: HostRuntime) -> Result<(), Fail> {
     for (words, text, status, written) in TEXTS {
         let bytes = Vec::from_slice(rt.alloc(), text.as_bytes())?;
-        let (answer, sink) = answered(rt.alloc(), words, bytes, Vec::new(rt.alloc()))?;
-        assert_eq!(rt; answer, status, "{words:?} at {text}");
-        assert_eq!(rt; sink.written(), written.as_bytes(), "{words:?} at {text}");
+        let (answer, sink) = answered(&rt, rt.alloc(), words, bytes, Vec::new(rt.alloc()))?;
+        assert_eq!(&rt; answer, status, "{words:?} at {text}");
+        assert_eq!(&rt; sink.written(), written.as_bytes(), "{words:?} at {text}");
     }
     Ok(())
 }
@@ -225,26 +239,28 @@ fn searches_what_it_made(rt: HostRuntime) -> Result<(), Fail> {
     let made = ["--size", "20", "--objectives", "3", "--seed", "5"];
     let [size, items, objectives, three, seed, five] = made;
     let (status, text) = answered(
+        &rt,
         alloc,
         &["make", size, items, objectives, three, seed, five],
         Vec::new(alloc),
         Vec::new(alloc),
     )?;
-    assert_eq!(rt; status, Status::Closed);
-    assert!(rt; text.written().starts_with(b"pls1 knapsack 3 20 1\n"));
+    assert_eq!(&rt; status, Status::Closed);
+    assert!(&rt; text.written().starts_with(b"pls1 knapsack 3 20 1\n"));
     // the search of the text and the demo of the same seed end alike
     let bytes = Vec::from_slice(alloc, text.written())?;
-    let (status, front) = answered(alloc, &["search", seed, five], bytes, Vec::new(alloc))?;
+    let (status, front) = answered(&rt, alloc, &["search", seed, five], bytes, Vec::new(alloc))?;
     let (same, demo) = answered(
+        &rt,
         alloc,
         &["demo", size, items, objectives, three, seed, five],
         Vec::new(alloc),
         Vec::new(alloc),
     )?;
-    assert_eq!(rt; status, same);
+    assert_eq!(&rt; status, same);
     let end = last_line(front.written());
-    assert!(rt; end.starts_with(b"end closed explored "));
-    assert_eq!(rt; end, last_line(demo.written()));
+    assert!(&rt; end.starts_with(b"end closed explored "));
+    assert_eq!(&rt; end, last_line(demo.written()));
     Ok(())
 }
 
@@ -268,11 +284,11 @@ fn leaves_the_source_where_no_search_is_asked_for(rt: HostRuntime) -> Result<(),
         let text = Vec::from_slice(rt.alloc(), b"rest")?;
         let mut source = MemSource::new(text, Vec::new(rt.alloc()));
         let mut sink = MemSink::new(rt.alloc(), 10_000, 1000, Vec::new(rt.alloc()))?;
-        run(rt.alloc(), &words, &mut source, &mut sink);
+        runs(&rt, rt.alloc(), &words, &mut source, &mut sink);
         let rest = read_all(rt.alloc(), &mut source, 100)
             .ok()
             .ok_or("refused")?;
-        assert_eq!(rt; rest.as_slice(), b"rest".as_slice());
+        assert_eq!(&rt; rest.as_slice(), b"rest".as_slice());
     }
     Ok(())
 }
@@ -280,9 +296,9 @@ fn leaves_the_source_where_no_search_is_asked_for(rt: HostRuntime) -> Result<(),
 #[test]
 fn answers_a_source_that_fails(rt: HostRuntime) -> Result<(), Fail> {
     let text = Vec::from_slice(rt.alloc(), TWO_ITEMS.as_bytes())?;
-    let (status, sink) = answered(rt.alloc(), &["search"], text, vec![in rt.alloc(); 2]?)?;
-    assert_eq!(rt; status, Status::ReadFault);
-    assert_eq!(rt; sink.written(), b"error read\n".as_slice());
+    let (status, sink) = answered(&rt, rt.alloc(), &["search"], text, vec![in rt.alloc(); 2]?)?;
+    assert_eq!(&rt; status, Status::ReadFault);
+    assert_eq!(&rt; sink.written(), b"error read\n".as_slice());
     Ok(())
 }
 
@@ -298,9 +314,9 @@ fn answers_long_texts(rt: HostRuntime) -> Result<(), Fail> {
     ];
     for (length, status, written) in cases {
         let text = spaces(rt.alloc(), length)?;
-        let (answer, sink) = answered(rt.alloc(), &["search"], text, Vec::new(rt.alloc()))?;
-        assert_eq!(rt; answer, status);
-        assert_eq!(rt; sink.written(), written.as_bytes());
+        let (answer, sink) = answered(&rt, rt.alloc(), &["search"], text, Vec::new(rt.alloc()))?;
+        assert_eq!(&rt; answer, status);
+        assert_eq!(&rt; sink.written(), written.as_bytes());
     }
     Ok(())
 }
@@ -318,9 +334,9 @@ fn answers_a_sink_that_fails(rt: HostRuntime) -> Result<(), Fail> {
         let bytes = Vec::from_slice(rt.alloc(), text.as_bytes())?;
         let mut source = MemSource::new(bytes, Vec::new(rt.alloc()));
         let mut sink = MemSink::new(rt.alloc(), 100, 10, vec![in rt.alloc(); call]?)?;
-        let status = run(rt.alloc(), &words, &mut source, &mut sink);
-        assert_eq!(rt; status, Status::WriteFault, "at {text}");
-        assert_eq!(rt; sink.written(), written.as_bytes(), "at {text}");
+        let status = runs(&rt, rt.alloc(), &words, &mut source, &mut sink);
+        assert_eq!(&rt; status, Status::WriteFault, "at {text}");
+        assert_eq!(&rt; sink.written(), written.as_bytes(), "at {text}");
     }
     Ok(())
 }

@@ -2,9 +2,11 @@
 #![tactic(auto)]
 
 use pls_io::{StdSink, StdSource};
-use pls_top::{ArgWords, Status, run};
+use pls_top::{ArgWords, Journal, NoGate, Status, run};
 use std::process::ExitCode;
 use std::rt::Env;
+use std::sync::Wait;
+use std::thread::Threads;
 use std::{env, io};
 
 fn main(rt: HostRuntime) -> ExitCode {
@@ -12,13 +14,16 @@ fn main(rt: HostRuntime) -> ExitCode {
 }
 
 /// Runs on the words of the command line. Where these can't be had, nothing is written.
-fn answer<R: Env + Input + Print + AllocGlobal>(rt: &R) -> Status {
+fn answer<R: Env + Input + Print + AllocGlobal + Threads + Wait + Sync>(rt: &R) -> Status {
     match arg_words(rt) {
         Ok(words) => run(
+            rt,
             rt.alloc(),
             &words,
             &mut StdSource::new(rt),
             &mut StdSink::new(rt),
+            &NoGate,
+            &mut Journal::new(),
         ),
         Err(error) if error.kind() == io::ErrorKind::OutOfMemory => Status::Memory,
         Err(_) => Status::Usage,

@@ -4,5 +4,5 @@ use Rattle.pls_top.proofs.program.search_source.Goals as goal
 
 pub returns-in-Ok-clause-ending : goal.returns-in-Ok-clause-ending
 returns-in-Ok-clause-ending g c =
-    ends_searched c.args.settings.now c.deref.result.now _ _ _ _ c.deref.ensures.value c.requires (search rules) c.in-Ok.ensures.whole
+    ends_searched _ _ _ c.args.settings.now _ c.deref.result.now _ c.deref.ensures.value c.requires.mode (search rules) c.in-Ok.ensures.whole
     c.answer.ensures.finishes

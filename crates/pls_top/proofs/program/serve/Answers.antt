@@ -1,16 +1,24 @@
-use Rattle.std.proofs.Common.{◌≡◌, None, refl, inr, rules}
-use Rattle.pls_settings.specs.Line.{line}
+use Rattle.std.proofs.Common.{refl, rules}
 use Rattle.pls_settings.proofs.Limits.{line-HasLimits}
-use Rattle.pls_top.proofs.Serving.{ends_unasked, ends_with}
+use Rattle.pls_settings.specs.declared.choices.Mode.TheVariants.{Make}
+use Rattle.pls_top.proofs.Serving.{ends_as_usage, ends_unread, ends_with, finishes_unsearched}
 use Rattle.pls_top.proofs.program.serve.Goals as goal
+
+pub search_source-requires-clause-limits : goal.search_source-requires-clause-limits
+search_source-requires-clause-limits g c κs within = line-HasLimits c.args.words.now c.in-Ok.settings c.in-Ok.ensures.ok
+
+pub demonstrate-requires-clause-limits : goal.demonstrate-requires-clause-limits
+demonstrate-requires-clause-limits g c κs within = line-HasLimits c.args.words.now c.in-Ok.settings c.in-Ok.ensures.ok
 
 pub make_and_write-requires : goal.make_and_write-requires
 make_and_write-requires g c = (line-HasLimits c.args.words.now c.in-Ok.settings c.in-Ok.ensures.ok).make (search rules)
 
-pub demonstrate-requires : goal.demonstrate-requires
-demonstrate-requires g c = (line-HasLimits c.args.words.now c.in-Ok.settings c.in-Ok.ensures.ok).make (search rules)
+pub returns-in-Make-clause-ending : goal.returns-in-Make-clause-ending
+returns-in-Make-clause-ending g c =
+    ends_with _ _ _ _ _ _ c.in-Ok.ensures.ok
+    (ends_unread _ _ _ c.in-Ok.settings _ Make (search rules) refl refl
+    (finishes_unsearched _ _ _ _ _ c.in-Ok.settings _ _ c.make_and_write.ensures.finishes))
 
 pub returns-in-Err-Usage-clause-ending : goal.returns-in-Err-Usage-clause-ending
 returns-in-Err-Usage-clause-ending g c =
-    let none : line c.args.words.now ≡ None = c.in-Err-Usage.ensures.usage c.in-Err-Usage.field-0-is in
-    ends_with _ None _ _ _ none (ends_unasked None _ _ _ refl refl (inr c.finish.ensures.finishes))
+    ends_as_usage _ _ _ _ _ (c.in-Err-Usage.ensures.usage c.in-Err-Usage.field-0-is) (search rules) c.finish.ensures.finishes
