@@ -92,8 +92,7 @@ StandsFor-started i es first now new did each =
         taken_are = λ test. omega arith;
         done_are = omega (arith, did.done_are, new.done);
         cut = refl;
-        evaluated_least = omega arith;
-        evaluated_most = omega (arith, did.goes_are, new.goes);
+        went = omega (arith, did.goes_are, new.goes);
         drawn = omega (arith, did.draws_are, did.goes_are, new.draws, new.goes);
       };
       counts = record {

@@ -80,6 +80,16 @@ unfull-begun {B = B} u end is full none a = by_case (full.0 a)
     by_case (inl b) = none b
     by_case (inr e) = not_full u (sym is ∙ e)
 
+-- what was cut while the starts were submitted was cut since the archive had no room for one
+module _ (i : Instance) (starts : List Point) (before after : Hands) (end : Result (Unit {0}) Cause) where
+  pub is_full : (cause : Cause) → end ≡ Err cause → UnlessMemory end (SubmitsStarts i starts before after) → cause ≢ Memory → end ≡ Err Full
+  is_full cause is submits other = is ∙ by_cause cause (subst (λ e. UnlessMemory e (SubmitsStarts i starts before after)) is submits) other
+    where
+      by_cause : (cause : Cause) → UnlessMemory (failed cause) (SubmitsStarts i starts before after) → cause ≢ Memory → failed cause ≡ Err Full
+      by_cause Spent submits other = absurd (false≢true (sym submits.unspent))
+      by_cause Full submits other = refl
+      by_cause Memory submits other = absurd (other refl)
+
 module _ (reply : List Point → Call → Reply) (i : Instance) (starts : List Point) (started : ℕ) (before after : Hands) (new : IsNewWorker before)
     (seen : before.view ≡ new_view 0) where
   -- the tasks that its starts made wait in order
@@ -123,14 +133,6 @@ module _ (reply : List Point → Call → Reply) (i : Instance) (starts : List P
 
   -- the archive had no room for one
   module _ (end : Result (Unit {0}) Cause) where
-    pub is_full : (cause : Cause) → end ≡ Err cause → UnlessMemory end (SubmitsStarts i starts before after) → cause ≢ Memory → end ≡ Err Full
-    is_full cause is submits other = is ∙ by_cause cause (subst (λ e. UnlessMemory e (SubmitsStarts i starts before after)) is submits) other
-      where
-        by_cause : (cause : Cause) → UnlessMemory (failed cause) (SubmitsStarts i starts before after) → cause ≢ Memory → failed cause ≡ Err Full
-        by_cause Spent submits other = absurd (false≢true (sym submits.unspent))
-        by_cause Full submits other = refl
-        by_cause Memory submits other = absurd (other refl)
-
     pub lacking : (causes : List Cause) → end ≡ Err Full → UnlessMemory end (SubmitsStarts i starts before after) → GoesOn reply started causes before after
         → before.account.waiting ≡ [] → (end ≢ Err Memory → after.tally.seats ≡ 1 → StaysInLine before after)
         → OfTeam i starts 1 (Lacks starts) after

@@ -36,7 +36,7 @@ use Rattle.pls_search.specs.Leaving.{OfTeam, IsIdle, Ended}
 use Rattle.pls_search.proofs.Totals.{Every-mapped}
 use Rattle.pls_search.proofs.TeamRuns.{entries-ending, lists-ended, callers-ended, is_search_run}
 use Rattle.pls_search.proofs.TeamEnds.{cut_short, stopped, closed}
-use Rattle.pls_search.proofs.TeamCounts.{accepted-observed, few_accepted, HasCounts-team}
+use Rattle.pls_search.proofs.TeamCounts.{accepted-observed, few_accepted, fewer_accepted, HasCounts-team}
 
 -- why a team's search ends so
 abbrev Decides : List Point → Hands → Work → List Work → End → Type 0
@@ -98,6 +98,9 @@ module _ (i : Instance) (starts : List Point) (first : Work) (others : List Work
                 points = points-ended e refl;
                 told = run.1;
                 few = let few = few_accepted i starts first others h team moves accounted e refl small in omega arith;
+                room = λ full.
+                    let fewer = fewer_accepted i starts first others h team moves accounted e refl (subst (Decides starts h first others) full decides) in
+                    omega (arith, fewer, count);
                 in_order = λ one. (team.in_turn (even ∙ (enough ∙ one)) (only first others one)).0;
               },
               HasCounts-team i starts first others h team moves accounted e refl small few_explored few_evaluated run.0.of_accepted stamp (answers.extends.stamped ∙ sym count),

@@ -13,6 +13,7 @@ pub mod TeamRuns
 pub mod TeamBounds
 pub mod TeamEnds
 pub mod TeamCounts
+pub mod Room
 pub mod Concluded
 pub mod Leavings
 pub mod Crews

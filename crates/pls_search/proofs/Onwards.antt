@@ -70,8 +70,7 @@ module _ (i : Instance) (spent full : Bool) (before after : Hands) (on : Explore
         cut =
             let sums = total-append (λ x. one_if (is_cut (neighbours_of i) x)) xs ys in
             omega (arith, is.cut, on.cut, sums);
-        evaluated_least = omega (arith, is.evaluated_least, before_is, after_is);
-        evaluated_most = omega (arith, is.evaluated_most, before_is, after_is);
+        went = omega (arith, is.went, before_is, after_is);
         drawn = omega (arith, is.drawn);
       }
 
@@ -123,8 +122,7 @@ HasDone-none i h new = record {
     taken_are = λ test. omega arith;
     done_are = refl;
     cut = refl;
-    evaluated_least = omega arith;
-    evaluated_most = omega arith;
+    went = refl;
     drawn = refl;
   };
   goes_on = refl;

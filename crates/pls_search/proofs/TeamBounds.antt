@@ -36,9 +36,9 @@ submits-few (e ∷ es) =
     let one = submits-one e.call in
     let rest = submits-few es in omega arith
 
-starts-few : (starts : List Point) (es : List Entry) → SubmitsFirst starts es → length (submissions es) ≤ length starts
+-- no more starts were submitted than there are
+starts-few : (starts : List Point) (es : List Entry) → SubmitsFirst starts es → length es ≤ length starts
 starts-few starts es begins =
-    let few = submits-few es in
     let long : length es ≡ min (length es) (length starts) =
     sym (length-map es (λ (e : Entry). e.call))
     ∙ (ap length begins ∙ (length-map (take (length es) starts) Update ∙ length-take (length es) starts)) in omega arith
@@ -83,10 +83,16 @@ module _ (i : Instance) (starts : List Point) (first : Work) (others : List Work
           let few = tasks-run (neighbours_of i) w.run both.0.explores.each both.1.last in
           let none = ap (λ (es : List Entry). length (submissions es)) both.1.starts in omega arith
 
-  pub tasks-few : length (tasks_of (runs_of (first ∷ others))) ≤ length starts + evaluated (runs_of (first ∷ others))
-  tasks-few =
+  -- of the starts those alone that were submitted
+  pub tasks-begun : length (tasks_of (runs_of (first ∷ others))) ≤ length first.run.starts + evaluated (runs_of (first ∷ others))
+  tasks-begun =
       let all = length-all_tasks (first ∷ others) in
       let one = tasks-run (neighbours_of i) first.run team.works.0.explores.each team.goes_on in
-      let begun = starts-few starts first.run.starts team.begins in
+      let begun = submits-few first.run.starts in
       let rest = tasks-others in
       let each = evaluated-each (first ∷ others) in omega arith
+
+  pub tasks-few : length (tasks_of (runs_of (first ∷ others))) ≤ length starts + evaluated (runs_of (first ∷ others))
+  tasks-few =
+      let begun = tasks-begun in
+      let few = starts-few starts first.run.starts team.begins in omega arith

@@ -1,8 +1,8 @@
 -- The counts of a team's search, and that each task that was taken is one of the instance.
-use Rattle.std.proofs.Common.{◌≡◌, ℕ, ◌+◌, ◌^◌, ◌<◌, ◌≤◌, ◌==◌, Bool, true, false, ◌&&◌, not, List, [], ◌∷◌, ◌++◌, length, map, refl, ap, sym, ◌∙◌, arith}
+use Rattle.std.proofs.Common.{◌≡◌, ◌⊎◌, ℕ, ◌+◌, ◌^◌, ◌<◌, ◌≤◌, ◌==◌, Bool, true, false, ◌&&◌, not, List, [], ◌∷◌, ◌++◌, length, map, refl, ap, sym, ◌∙◌, arith, inl, inr}
 use Rattle.std.specs.List.{flat_map}
 use Rattle.std.proofs.lemmas.Bool.{and_from, eq-eqb}
-use Rattle.std.proofs.lemmas.List.{length-map}
+use Rattle.std.proofs.lemmas.List.{length-map, length-drop}
 use Rattle.pls_archive.specs.declared.point.Point.{Point}
 use Rattle.pls_archive.specs.declared.call.Call.{Call}
 use Rattle.pls_archive.specs.declared.call.Call.TheVariants.{Update, Covered, Member, Snapshot}
@@ -14,18 +14,19 @@ use Rattle.pls_archive.specs.Rule.{submitted_by, accepted_by, is_accepting}
 use Rattle.pls_archive.specs.History.{submissions, accepts, accepting}
 use Rattle.pls_archive.specs.Serialization.{AreSequentiallyConsistent}
 use Rattle.pls_archive.specs.Explorations.{Task, CallerRun, tasks_by, tasks, entries_of_run, tasks_of, explorations_of, explored_tasks, explored, accepted_count}
+use Rattle.pls_archive.specs.SearchRun.{missing}
 use Rattle.pls_archive.proofs.Counted.{counts_accepting}
 use Rattle.pls_archive.proofs.Every.{Every-append, Every-left, Every-right, Every-map, total-same, total-map, total-every, length-filter, length-flat_map}
 use Rattle.pls_problem.specs.Instance.{feasible, objectives}
 use Rattle.pls_problem.specs.declared.instance.Instance.{Instance}
 use Rattle.pls_search.specs.Neighbours.{neighbours_of, is_of, IsPointOf}
 use Rattle.pls_search.specs.Workers.{Hands, Work, IsWork, is_explored, taken_by}
-use Rattle.pls_search.specs.Teams.{runs_of, ending_with, IsTeam, IsAccounted, IsSmall}
+use Rattle.pls_search.specs.Teams.{runs_of, fulls, ending_with, IsTeam, IsAccounted, IsSmall}
 use Rattle.pls_search.specs.Outcomes.{HasCounts}
 use Rattle.pls_search.proofs.Counting.{HasCounted-exact}
 use Rattle.pls_search.proofs.Totals.{how_many-both, among-length}
-use Rattle.pls_search.proofs.TeamRuns.{tasks_of-ended, evaluated-within}
-use Rattle.pls_search.proofs.TeamBounds.{tasks-few}
+use Rattle.pls_search.proofs.TeamRuns.{tasks_of-ended, evaluated-full, evaluated-within}
+use Rattle.pls_search.proofs.TeamBounds.{tasks-begun, tasks-few}
 
 -- ---- what holds of all submissions holds of the tasks
 
@@ -127,6 +128,20 @@ module _ (i : Instance) (starts : List Point) (first : Work) (others : List Work
         let within = evaluated-within i starts first others h team moves accounted in
         let few_starts = small.few_starts in
         let few_moves = small.few_moves in omega arith
+
+    -- and fewer than starts and moves, where there was no room for one more
+    pub fewer_accepted :
+        (e : Entry) → e.call ≡ Snapshot → (0 < length (missing starts first.run)) ⊎ (0 < fulls all)
+        → accepted_count (ending_with e first.run ∷ runs_of others) < length starts + moves
+    fewer_accepted e asks (inl missed) =
+        let made = ap length (tasks_of-ended i starts first others h team e asks) in
+        let begun = tasks-begun i starts first others h team in
+        let within = evaluated-within i starts first others h team moves accounted in
+        let left = length-drop (length first.run.starts) starts in omega (arith, missed, left)
+    fewer_accepted e asks (inr full) =
+        let made = ap length (tasks_of-ended i starts first others h team e asks) in
+        let few = tasks-few i starts first others h team in
+        let within = evaluated-full i starts first others h team moves accounted in omega (arith, full)
 
     -- so the counts in the hands are exact
     pub HasCounts-team :

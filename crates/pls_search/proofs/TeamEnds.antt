@@ -6,9 +6,9 @@ use Rattle.pls_archive.specs.declared.call.Call.{Call}
 use Rattle.pls_archive.specs.declared.call.Call.TheVariants.{Snapshot}
 use Rattle.pls_archive.specs.declared.call.Entry.{Entry}
 use Rattle.pls_archive.specs.Lists.{Every, total, how_many, one_if, AsOften}
-use Rattle.pls_archive.specs.Explorations.{Task, Exploration, is_whole, is_cut, cuts, explorations_of, explored_tasks, tasks_of, tasks, entries_of_run, evaluated}
+use Rattle.pls_archive.specs.Explorations.{Task, Exploration, is_whole, is_cut, cuts, explorations_of, explored_tasks, tasks_of, tasks, entries_of_run}
 use Rattle.pls_archive.specs.SearchRun.{IsClosed, IsStopped, IsCutShort, missing}
-use Rattle.pls_archive.proofs.Every.{Every-map, total-le, total-every, total-every_le, total-plus}
+use Rattle.pls_archive.proofs.Every.{Every-map, total-le, total-every, total-plus}
 use Rattle.pls_pool.specs.DeskRule.{HoldsAll, AllWent}
 use Rattle.pls_pool.specs.declared.tally.Tally.{Tally}
 use Rattle.pls_problem.specs.declared.instance.Instance.{Instance}
@@ -18,7 +18,7 @@ use Rattle.pls_search.specs.Teams.{runs_of, fulls, spents, ending_with, IsTeam, 
 use Rattle.pls_search.proofs.Totals.{as_often, among-length, total-explorations, how_many-both, length-all_tasks}
 use Rattle.pls_search.proofs.Turns.{uncut}
 use Rattle.pls_search.proofs.TeamBounds.{tasks-few}
-use Rattle.pls_search.proofs.TeamRuns.{tasks_of-ended, explored-among, evaluated-within, evaluated-each, evaluated-goes}
+use Rattle.pls_search.proofs.TeamRuns.{tasks_of-ended, explored-among, evaluated-within, goes-evaluated}
 
 module _ (i : Instance) (starts : List Point) (first : Work) (others : List Work) (h : Hands) (team : IsTeam i starts first others h) where
   abbrev all : List Work
@@ -67,15 +67,6 @@ module _ (i : Instance) (starts : List Point) (first : Work) (others : List Work
       either false true = omega arith
       either false false = omega arith
 
-  -- as many draws gave a move as neighbours were evaluated, and one more for each worker for which the archive was full
-  goes-evaluated : total (λ w. w.goes) all ≤ evaluated (runs_of all) + fulls all
-  goes-evaluated =
-      let each = evaluated-each all in
-      let sums = total-plus (λ w. evaluated (w.run ∷ [])) (λ w. one_if w.full) all in
-      let less = total-every_le (λ w. w.goes) (λ w. evaluated (w.run ∷ []) + one_if w.full) all
-      (Every-map (IsWork i) (λ w. w.goes ≤ evaluated (w.run ∷ []) + one_if w.full) (λ w is. is.evaluated_most) all team.works) in
-      omega arith
-
   draws-spents : total (λ w. w.draws) all ≡ total (λ w. w.goes) all + spents all
   draws-spents =
       let sums = total-plus (λ w. w.goes) (λ w. one_if w.spent) all in
@@ -106,7 +97,7 @@ module _ (i : Instance) (starts : List Point) (first : Work) (others : List Work
       -- where no move was left
       pub stopped : 0 < spents all → IsStopped (neighbours_of i) starts moves (ending_with e first.run) (runs_of others)
       stopped spent =
-          let goes = goes-evaluated in
+          let goes = goes-evaluated i starts first others h team in
           let draws = draws-spents in
           let cut = spents-cut in
           let within = evaluated-within i starts first others h team moves accounted in

@@ -13,14 +13,14 @@ use Rattle.pls_archive.specs.Serialization.{AreSequentiallyConsistent}
 use Rattle.pls_archive.specs.View.{View, IsConsistent, Extends, lists_of}
 use Rattle.pls_archive.specs.Explorations.{Task, Exploration, CallerRun, tasks, entries_of, entries_of_run, explorations_of, explored_tasks, tasks_of, evaluated, evaluated_in}
 use Rattle.pls_archive.specs.SearchRun.{IsSearchRun, Explores, OnlyExplores, missing}
-use Rattle.pls_archive.proofs.Every.{Every-map, total-le, total-same, total-every, total-every_le}
+use Rattle.pls_archive.proofs.Every.{Every-map, total-le, total-same, total-every, total-every_le, total-plus}
 use Rattle.pls_archive.proofs.SequentialCalls.{tasks-append}
 use Rattle.pls_archive.proofs.ViewsInOrder.{holds_in_order}
 use Rattle.pls_archive.proofs.ViewsLawful.{views_are_lawful}
 use Rattle.pls_problem.specs.declared.instance.Instance.{Instance}
 use Rattle.pls_search.specs.Neighbours.{neighbours_of}
 use Rattle.pls_search.specs.Workers.{Hands, Work, IsWork}
-use Rattle.pls_search.specs.Teams.{runs_of, ending_with, IsTeam, IsAccounted}
+use Rattle.pls_search.specs.Teams.{runs_of, fulls, ending_with, IsTeam, IsAccounted}
 use Rattle.pls_search.proofs.Totals.{Every-mapped, total-explorations, how_many-explored, how_many-tasks}
 
 -- ---- the last question makes no task
@@ -73,12 +73,14 @@ module _ (i : Instance) (starts : List Point) (first : Work) (others : List Work
       (Every-map (IsWork i) (λ w. how_many test (map (λ x. x.task) w.run.explorations) ≤ w.taken test) (λ w is. is.taken_are test) (first ∷ others) team.works)
       in omega arith
 
-  pub evaluated-goes : evaluated (runs_of (first ∷ others)) ≤ total (λ w. w.goes) (first ∷ others)
-  evaluated-goes =
+  -- as many draws gave a move as neighbours were evaluated, and one more for each worker for which the archive was full
+  pub goes-evaluated : total (λ w. w.goes) (first ∷ others) ≡ evaluated (runs_of (first ∷ others)) + fulls (first ∷ others)
+  goes-evaluated =
       let all = evaluated-each (first ∷ others) in
+      let sums = total-plus (λ w. evaluated (w.run ∷ [])) (λ w. one_if w.full) (first ∷ others) in
       let each =
-      total-every_le (λ w. evaluated (w.run ∷ [])) (λ w. w.goes) (first ∷ others)
-      (Every-map (IsWork i) (λ w. evaluated (w.run ∷ []) ≤ w.goes) (λ w is. is.evaluated_least) (first ∷ others) team.works)
+      total-every (λ w. w.goes) (λ w. evaluated (w.run ∷ []) + one_if w.full) (first ∷ others)
+      (Every-map (IsWork i) (λ w. w.goes ≡ evaluated (w.run ∷ []) + one_if w.full) (λ w is. is.went) (first ∷ others) team.works)
       in omega arith
 
   module _ (moves : ℕ) (accounted : IsAccounted moves h) where
@@ -91,12 +93,15 @@ module _ (i : Instance) (starts : List Point) (first : Work) (others : List Work
         let put = team.adds_up.put_are test in
         let made = put-tasks test in omega arith
 
-    pub evaluated-within : evaluated (runs_of (first ∷ others)) ≤ moves
-    evaluated-within =
-        let least = evaluated-goes in
+    pub evaluated-full : evaluated (runs_of (first ∷ others)) + fulls (first ∷ others) ≤ moves
+    evaluated-full =
+        let all = goes-evaluated in
         let goes = team.adds_up.goes_are in
         let went = accounted.went in
         let budget = accounted.budget in omega arith
+
+    pub evaluated-within : evaluated (runs_of (first ∷ others)) ≤ moves
+    evaluated-within = let full = evaluated-full in omega arith
 
     -- ---- so the lists are a search run
 

@@ -116,8 +116,7 @@ work_is = record {
   taken_are = λ test. omega arith;
   done_are = refl;
   cut = refl;
-  evaluated_least = omega arith;
-  evaluated_most = omega arith;
+  went = refl;
   drawn = refl;
 }
 

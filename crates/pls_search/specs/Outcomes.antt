@@ -1,5 +1,5 @@
 -- What a search tells when it ends.
-use Rattle.std.specs.Prelude.{◌≡◌, ℕ, ◌+◌, ◌^◌, ◌≤◌, List, ◌∷◌, length, map, Result, Ok, Err}
+use Rattle.std.specs.Prelude.{◌≡◌, ℕ, ◌+◌, ◌^◌, ◌<◌, ◌≤◌, List, ◌∷◌, length, map, Result, Ok, Err}
 use Rattle.std.specs.List.{flat_map, range_with_len}
 use Rattle.pls_archive.specs.declared.point.Point.{Point}
 use Rattle.pls_archive.specs.declared.call.Call.{Call}
@@ -40,6 +40,8 @@ pub record HoldsRun (reply : List Point → Call → Reply) (i : Instance) (star
   pub told : run.asks_last.entry.reply ≡ Points members
   -- so few points were accepted that no update was refused for their number
   pub few : length v.observed ≤ 10 ^ 9 + 64
+  -- where there was no room for one more, fewer were accepted than there are starts and moves
+  pub room : end ≡ Full → length v.observed < length starts + moves
   -- one worker alone explores the accepted points in order of acceptance
   pub in_order : started ≡ 1 → InOrder first.starts 0 first.explorations
 

@@ -110,8 +110,7 @@ pub record IsWork (i : Instance) (w : Work) : Type 0 where
   pub done_are : w.done ≡ how_many (is_whole (neighbours_of i)) w.run.explorations
   pub cut : how_many (is_cut (neighbours_of i)) w.run.explorations ≡ one_if (w.spent || w.full)
   -- a move was drawn before each neighbour, and before the one that found no room
-  pub evaluated_least : evaluated (w.run ∷ []) ≤ w.goes
-  pub evaluated_most : w.goes ≤ evaluated (w.run ∷ []) + one_if w.full
+  pub went : w.goes ≡ evaluated (w.run ∷ []) + one_if w.full
   pub drawn : w.draws ≡ w.goes + one_if w.spent
 
 -- the work that is seen with a run

@@ -1,5 +1,5 @@
 //! The end of a search: the joined worker goes on until no task is open, and asks for the members.
-ghost use Rattle.std.specs.Prelude.{◌≡◌, ◌≢◌, ◌↔◌, ◌⊎◌, ◌+◌, ◌<◌, List, Ok, Err, OnOk, IfOk, IfErr, MatchOption, length};
+ghost use Rattle.std.specs.Prelude.{◌≡◌, ◌≢◌, ◌↔◌, ◌⊎◌, ◌+◌, ◌<◌, ◌≤◌, List, Ok, Err, OnOk, IfOk, IfErr, MatchOption, length};
 ghost use Rattle.pls_archive.specs.History.{accepted};
 ghost use Rattle.pls_archive.specs.View.{IsConsistent};
 ghost use Rattle.pls_archive.specs.declared.point.Point.{Point};
@@ -53,12 +53,14 @@ impl<'a, A: Shared, P: Pool<Task>, G: Gate> Search<'a, A, P, G> {
         requires all { HoldsAll (tally_of worker.old.desk_seat) }
         requires consistent { IsConsistent (A.Law.reply (A.number self.now.archive.now)) (A.passes self.now.archive.now) (A.view worker.old.pass) }
         requires full { left ≢ Err Memory → (A.shows_full worker.old.pass ↔ (left ≡ Err Full)) }
+        requires room { left ≡ Err Full → A.safe self.now.archive.now ≤ length (A.view worker.old.pass).observed }
         requires alike { P.seats self.now.pool.now ≡ self.now.desk.now.seats }
         ensures pass { A.belongs self.now.archive.now worker.new.pass × A.at_rest worker.new.pass }
         ensures seats { P.belongs self.now.pool.now worker.new.pool_seat × IsDeskSeatOf self.now.desk.now worker.new.desk_seat }
         ensures all { HoldsAll (tally_of worker.new.desk_seat) }
         ensures consistent { IsConsistent (A.Law.reply (A.number self.now.archive.now)) (A.passes self.now.archive.now) (A.view worker.new.pass) }
         ensures full { result ≢ Err Memory → (A.shows_full worker.new.pass ↔ (result ≡ Err Full)) }
+        ensures room { result ≡ Err Full → A.safe self.now.archive.now ≤ length (A.view worker.new.pass).observed }
         ensures numbers { (P.account worker.new.pool_seat).numbers ≡ (P.account worker.old.pool_seat).numbers }
         ensures leaves { (starts : List Point) → Leaves IsUnhalted self.now.instance.now starts (A.passes self.now.archive.now) left
             (hands (A.view worker.old.pass) (P.account worker.old.pool_seat) (tally_of worker.old.desk_seat) worker.old.explored worker.old.evaluated)
@@ -86,6 +88,7 @@ impl<'a, A: Shared, P: Pool<Task>, G: Gate> Search<'a, A, P, G> {
         requires all { HoldsAllSeats (P.seats self.now.pool.now) (P.account worker.pool_seat) × HoldsAll (tally_of worker.desk_seat) }
         requires consistent { IsConsistent (A.Law.reply (A.number self.now.archive.now)) (A.passes self.now.archive.now) (A.view worker.pass) }
         requires full { left ≢ Err Memory → (A.shows_full worker.pass ↔ (left ≡ Err Full)) }
+        requires room { left ≡ Err Full → A.safe self.now.archive.now ≤ length (A.view worker.pass).observed }
         requires passes { A.passes self.now.archive.now ≡ self.now.desk.now.seats }
         ensures found { (starts : List Point) → IsSmall starts self.now.desk.now.moves
             → Ended self.now.instance.now starts (A.passes self.now.archive.now) left
@@ -93,6 +96,7 @@ impl<'a, A: Shared, P: Pool<Task>, G: Gate> Search<'a, A, P, G> {
             → IfOk result (λ o. Finds (A.Law.reply (A.number self.now.archive.now)) self.now.instance.now starts self.now.desk.now.moves (A.passes self.now.archive.now) (A.view o.pass) o.end o.front o.explored o.evaluated o.accepted) }
         ensures pass { IfOk result (λ o. A.belongs self.now.archive.now o.pass × A.at_rest o.pass) }
         ensures full { IfOk result (λ o. A.shows_full o.pass ↔ (o.end ≡ End.Full)) }
+        ensures room { IfOk result (λ o. o.end ≡ End.Full → A.safe self.now.archive.now ≤ length (A.view o.pass).observed) }
         ensures no_memory { IfErr result (λ n. A.belongs self.now.archive.now n.pass × A.at_rest n.pass
             × IsConsistent (A.Law.reply (A.number self.now.archive.now)) (A.passes self.now.archive.now) (A.view n.pass)) }
     {
@@ -131,6 +135,7 @@ impl<'a, A: Shared, P: Pool<Task>, G: Gate> Search<'a, A, P, G> {
         requires all { HoldsAllSeats (P.seats self.now.pool.now) (P.account left.worker.pool_seat) × HoldsAll (tally_of left.worker.desk_seat) }
         requires consistent { IsConsistent (A.Law.reply (A.number self.now.archive.now)) (A.passes self.now.archive.now) (A.view left.worker.pass) }
         requires full { left.end ≢ Err Memory → (A.shows_full left.worker.pass ↔ (left.end ≡ Err Full)) }
+        requires room { left.end ≡ Err Full → A.safe self.now.archive.now ≤ length (A.view left.worker.pass).observed }
         requires alike { P.seats self.now.pool.now ≡ self.now.desk.now.seats }
         requires passes { A.passes self.now.archive.now ≡ self.now.desk.now.seats }
         ensures found { (starts : List Point) → IsSmall starts self.now.desk.now.moves
@@ -139,6 +144,7 @@ impl<'a, A: Shared, P: Pool<Task>, G: Gate> Search<'a, A, P, G> {
             → IfOk result (λ o. Finds (A.Law.reply (A.number self.now.archive.now)) self.now.instance.now starts self.now.desk.now.moves (A.passes self.now.archive.now) (A.view o.pass) o.end o.front o.explored o.evaluated o.accepted) }
         ensures pass { IfOk result (λ o. A.belongs self.now.archive.now o.pass × A.at_rest o.pass) }
         ensures full { IfOk result (λ o. A.shows_full o.pass ↔ (o.end ≡ End.Full)) }
+        ensures room { IfOk result (λ o. o.end ≡ End.Full → A.safe self.now.archive.now ≤ length (A.view o.pass).observed) }
         ensures no_memory { IfErr result (λ n. A.belongs self.now.archive.now n.pass × A.at_rest n.pass
             × IsConsistent (A.Law.reply (A.number self.now.archive.now)) (A.passes self.now.archive.now) (A.view n.pass)) }
     {

@@ -1,5 +1,5 @@
 //! A worker in a thread of its own: how it leaves, and what the thread promises of that.
-ghost use Rattle.std.specs.Prelude.{◌≡◌, ◌↔◌, ◌⊎◌, Err};
+ghost use Rattle.std.specs.Prelude.{◌≡◌, ◌↔◌, ◌⊎◌, ◌≤◌, Err, length};
 ghost use Rattle.pls_pool.specs.DeskSeats.{IsDeskSeatOf, tally_of};
 ghost use Rattle.pls_pool.specs.declared.cause.Cause.TheVariants.{Full};
 ghost use Rattle.pls_problem.specs.Instance.{objectives};
@@ -39,7 +39,8 @@ impl<A: Shared, P: Pool<Task>> Promise<Left<A, P>> for Departing<A, P> {
         × Departs (A.Law.reply (A.number p.archive.value)) p.instance.value (A.passes p.archive.value) r.end
         (hands (A.view p.before.value.pass) (P.account p.before.value.pool_seat) (tally_of p.before.value.desk_seat) p.before.value.explored p.before.value.evaluated)
         (hands (A.view r.worker.pass) (P.account r.worker.pool_seat) (tally_of r.worker.desk_seat) r.worker.explored r.worker.evaluated)
-        × (A.shows_full r.worker.pass ↔ (A.shows_full p.before.value.pass ⊎ (r.end ≡ Err Full))) };
+        × (A.shows_full r.worker.pass ↔ (A.shows_full p.before.value.pass ⊎ (r.end ≡ Err Full)))
+        × (r.end ≡ Err Full → A.safe p.archive.value ≤ length (A.view r.worker.pass).observed) };
 }
 
 impl<'a, A: Shared, P: Pool<Task>, G: Gate> Search<'a, A, P, G> {
@@ -56,6 +57,7 @@ impl<'a, A: Shared, P: Pool<Task>, G: Gate> Search<'a, A, P, G> {
             (hands (A.view worker.pass) (P.account worker.pool_seat) (tally_of worker.desk_seat) worker.explored worker.evaluated)
             (hands (A.view result.worker.pass) (P.account result.worker.pool_seat) (tally_of result.worker.desk_seat) result.worker.explored result.worker.evaluated) }
         ensures full { A.shows_full result.worker.pass ↔ (A.shows_full worker.pass ⊎ (result.end ≡ Err Full)) }
+        ensures room { result.end ≡ Err Full → A.safe self.now.archive.now ≤ length (A.view result.worker.pass).observed }
     {
         let end = self.work(rt, &mut worker);
         Left { worker, end }

@@ -43,6 +43,7 @@ impl<'a, A: Shared, P: Pool<Task>, G: Gate> Search<'a, A, P, G> {
             × ((tally_of result.desk_seat).share ≡ vec_len crew.passes + 1) }
         ensures consistent { IsConsistent (A.Law.reply (A.number self.now.archive.now)) (A.passes self.now.archive.now) (A.view result.pass) }
         ensures full { A.shows_full result.pass ↔ A.shows_full first.pass }
+        ensures room { length (A.view first.pass).observed ≤ length (A.view result.pass).observed }
         ensures lacks { (starts : List Point) → OfTeam self.now.instance.now starts 1 (Lacks starts)
             (hands (A.view first.pass) (P.account first.pool_seat) (tally_of first.desk_seat) first.explored first.evaluated)
             → OfTeam self.now.instance.now starts (vec_len crew.passes + 1) (Lacks starts)
@@ -72,6 +73,7 @@ impl<'a, A: Shared, P: Pool<Task>, G: Gate> Search<'a, A, P, G> {
         requires alone { ((P.account first.pool_seat).numbers ≡ 0 ∷ []) × ((tally_of first.desk_seat).share ≡ 1) }
         requires consistent { IsConsistent (A.Law.reply (A.number self.now.archive.now)) (A.passes self.now.archive.now) (A.view first.pass) }
         requires full { cause ≢ Memory → A.shows_full first.pass }
+        requires room { cause ≢ Memory → A.safe self.now.archive.now ≤ length (A.view first.pass).observed }
         requires few { (P.seats self.now.pool.now ≡ vec_len crew.passes + 1) × (self.now.desk.now.seats ≡ vec_len crew.passes + 1)
             × (A.passes self.now.archive.now ≡ vec_len crew.passes + 1) × vec_len crew.passes ≤ 16 }
         requires even { (vec_len crew.pool_seats ≡ vec_len crew.passes) × (vec_len crew.desk_seats ≡ vec_len crew.passes) }
@@ -84,6 +86,7 @@ impl<'a, A: Shared, P: Pool<Task>, G: Gate> Search<'a, A, P, G> {
             → IfOk result (λ o. Finds (A.Law.reply (A.number self.now.archive.now)) self.now.instance.now starts self.now.desk.now.moves (A.passes self.now.archive.now) (A.view o.pass) o.end o.front o.explored o.evaluated o.accepted) }
         ensures pass { IfOk result (λ o. A.belongs self.now.archive.now o.pass × A.at_rest o.pass) }
         ensures full { IfOk result (λ o. A.shows_full o.pass ↔ (o.end ≡ End.Full)) }
+        ensures room { IfOk result (λ o. o.end ≡ End.Full → A.safe self.now.archive.now ≤ length (A.view o.pass).observed) }
         ensures no_memory { IfErr result (λ n. A.belongs self.now.archive.now n.pass × A.at_rest n.pass
             × IsConsistent (A.Law.reply (A.number self.now.archive.now)) (A.passes self.now.archive.now) (A.view n.pass)) }
     {

@@ -1,5 +1,5 @@
 //! The search.
-ghost use Rattle.std.specs.Prelude.{◌≡◌, ◌↔◌, ◌+◌, ◌≤◌, All, true, map, length, vec_len, IfOk, IfErr};
+ghost use Rattle.std.specs.Prelude.{◌≡◌, ◌↔◌, ◌+◌, ◌<◌, ◌≤◌, All, true, map, length, vec_len, IfOk, IfErr};
 ghost use Rattle.pls_archive.specs.View.{IsConsistent, new_view};
 ghost use Rattle.pls_pool.specs.Accounts.{IsNew};
 ghost use Rattle.pls_pool.specs.DeskSeats.{IsNewDeskSeat};
@@ -49,6 +49,7 @@ where
     ensures found { IfOk result (λ o. Finds (A.Law.reply (A.number archive.now)) instance.now (map (point_of instance.now) starts.now) desk.now.moves (A.passes archive.now) (A.view o.pass) o.end o.front o.explored o.evaluated o.accepted) }
     ensures pass { IfOk result (λ o. A.belongs archive.now o.pass × A.at_rest o.pass) }
     ensures full { IfOk result (λ o. A.shows_full o.pass ↔ (o.end ≡ End.Full)) }
+    ensures room { IfOk result (λ o. o.end ≡ End.Full → A.safe archive.now < length starts.now + desk.now.moves) }
     ensures no_memory { IfErr result (λ n. A.belongs archive.now n.pass × A.at_rest n.pass
         × IsConsistent (A.Law.reply (A.number archive.now)) (A.passes archive.now) (A.view n.pass)) }
 {

@@ -54,6 +54,7 @@ impl<'a, A: Shared, P: Pool<Task>, G: Gate> Search<'a, A, P, G> {
         ensures consistent { IsConsistent (A.Law.reply (A.number self.now.archive.now)) (A.passes self.now.archive.now) (A.view result.worker.pass) }
         ensures fresh { OnOk result.end ((tally_of result.worker.desk_seat).draws ≡ (tally_of result.worker.desk_seat).goes) }
         ensures full { result.end ≢ Err Memory → (A.shows_full result.worker.pass ↔ (result.end ≡ Err Full)) }
+        ensures room { result.end ≡ Err Full → A.safe self.now.archive.now ≤ length (A.view result.worker.pass).observed }
         ensures leaves { (starts : List Point) → AreReady self.now.instance.now starts 1
             (hands (A.view first.pass) (P.account first.pool_seat) (tally_of first.desk_seat) first.explored first.evaluated)
             → Leaves IsUnhalted self.now.instance.now starts (vec_len crew.passes + 1) result.end

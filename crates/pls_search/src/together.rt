@@ -35,6 +35,8 @@ impl<'a, A: Shared, P: Pool<Task>, G: Gate> Search<'a, A, P, G> {
         requires few { length (P.account left.worker.pool_seat).numbers + length (P.account other.worker.pool_seat).numbers ≤ P.seats self.now.pool.now }
         requires full { left.end ≢ Err Memory → (A.shows_full left.worker.pass ↔ (left.end ≡ Err Full)) }
         requires other_full { other.end ≢ Err Memory → (A.shows_full other.worker.pass ↔ (other.end ≡ Err Full)) }
+        requires room { left.end ≡ Err Full → A.safe self.now.archive.now ≤ length (A.view left.worker.pass).observed }
+        requires other_room { other.end ≡ Err Full → A.safe self.now.archive.now ≤ length (A.view other.worker.pass).observed }
         ensures pass { A.belongs self.now.archive.now result.worker.pass × A.at_rest result.worker.pass }
         ensures seats { P.belongs self.now.pool.now result.worker.pool_seat × IsDeskSeatOf self.now.desk.now result.worker.desk_seat }
         ensures joins { JoinsHands (hands (A.view left.worker.pass) (P.account left.worker.pool_seat) (tally_of left.worker.desk_seat) left.worker.explored left.worker.evaluated)
@@ -43,6 +45,7 @@ impl<'a, A: Shared, P: Pool<Task>, G: Gate> Search<'a, A, P, G> {
         ensures consistent { IsConsistent (A.Law.reply (A.number self.now.archive.now)) (A.passes self.now.archive.now) (A.view result.worker.pass) }
         ensures end { result.end ≡ graver left.end other.end }
         ensures full { result.end ≢ Err Memory → (A.shows_full result.worker.pass ↔ (result.end ≡ Err Full)) }
+        ensures room { result.end ≡ Err Full → A.safe self.now.archive.now ≤ length (A.view result.worker.pass).observed }
     {
         let Left { mut worker, end } = left;
         self.join(&mut worker, other.worker);
@@ -107,6 +110,7 @@ impl<'a, A: Shared, P: Pool<Task>, G: Gate> Search<'a, A, P, G> {
         ensures consistent { IsConsistent (A.Law.reply (A.number self.now.archive.now)) (A.passes self.now.archive.now) (A.view result.worker.pass) }
         ensures fresh { OnOk result.end ((tally_of result.worker.desk_seat).draws ≡ (tally_of result.worker.desk_seat).goes) }
         ensures full { result.end ≢ Err Memory → (A.shows_full result.worker.pass ↔ (result.end ≡ Err Full)) }
+        ensures room { result.end ≡ Err Full → A.safe self.now.archive.now ≤ length (A.view result.worker.pass).observed }
         ensures leaves { (starts : List Point) → AreReady self.now.instance.now starts 1
             (hands (A.view first.pass) (P.account first.pool_seat) (tally_of first.desk_seat) first.explored first.evaluated)
             → Leaves IsUnhalted self.now.instance.now starts (vec_len crew.passes + 1) result.end
@@ -135,7 +139,8 @@ impl<'a, A: Shared, P: Pool<Task>, G: Gate> Search<'a, A, P, G> {
                     × Departs (A.Law.reply (A.number self.entry.now.archive.now)) self.entry.now.instance.now (A.passes self.entry.now.archive.now) result.end
                     (hands (A.view other.pass) (P.account other.pool_seat) (tally_of other.desk_seat) other.explored other.evaluated)
                     (hands (A.view result.worker.pass) (P.account result.worker.pool_seat) (tally_of result.worker.desk_seat) result.worker.explored result.worker.evaluated)
-                    × (A.shows_full result.worker.pass ↔ (A.shows_full other.pass ⊎ (result.end ≡ Err Full))) }
+                    × (A.shows_full result.worker.pass ↔ (A.shows_full other.pass ⊎ (result.end ≡ Err Full)))
+                    × (result.end ≡ Err Full → A.safe self.entry.now.archive.now ≤ length (A.view result.worker.pass).observed) }
             { self.depart(rt, other) },
         );
         let left = self.together(scope, rt, first, crew);

@@ -12,6 +12,7 @@ use Rattle.pls_search.specs.Workers.{hands, GoesOn}
 use Rattle.pls_search.specs.Steps.{causes_of}
 use Rattle.pls_search.proofs.Gathered.{IsNewWorker-made}
 use Rattle.pls_search.proofs.Begun.{new_view-consistent, Seated-removed, ready, is_full, lacking, fresh-begun, unfull-begun}
+use Rattle.pls_search.proofs.Room.{room-observed, room-found}
 use Rattle.pls_search.proofs.searches.search.Goals as goal
 
 pub submit_starts-requires-clause-pass : goal.submit_starts-requires-clause-pass
@@ -190,6 +191,21 @@ returns-in-Err-clause-found g c =
     let submits = c.submit_starts.ensures.submits in
     let end = c.submit_starts.result in
     c.give_up.ensures.found starts small
-    (λ other. lacking (g.A.Law.Rule.reply (g.A.Shared.number c.args.archive.now)) i starts (g.A.Shared.passes c.args.archive.now) before after new pass.0.2 end _ (is_full (g.A.Law.Rule.reply (g.A.Shared.number c.args.archive.now)) i starts (g.A.Shared.passes c.args.archive.now) before after new pass.0.2 end _ c.in-Err.is submits other) submits
+    (λ other. lacking (g.A.Law.Rule.reply (g.A.Shared.number c.args.archive.now)) i starts (g.A.Shared.passes c.args.archive.now) before after new pass.0.2 end _ (is_full i starts before after end _ c.in-Err.is submits other) submits
     c.submit_starts.ensures.goes_on seat.0.1.waiting
     (λ some one. c.submit_starts.ensures.in_line some (c.requires.even.1 ∙ (sym c.requires.even.3 ∙ (sym c.submit_starts.ensures.seats.1.seats_are ∙ one)))))
+
+pub give_up-requires-clause-room : goal.give_up-requires-clause-room
+give_up-requires-clause-room g c κs within = λ other.
+    let full = is_full c.args.instance.now _ _ _ c.submit_starts.result _ c.in-Err.is c.submit_starts.ensures.submits other in
+    room-observed _ _ (c.submit_starts.ensures.room full)
+
+pub returns-in-Ok-clause-room : goal.returns-in-Ok-clause-room
+returns-in-Ok-clause-room g c =
+    room-found _ c.args.instance.now c.args.starts.now c.args.desk.now.moves _ _ (λ o. g.A.Shared.view o.pass) (λ o. o.end) (λ o. o.front) (λ o. o.explored) (λ o. o.evaluated) (λ o. o.accepted)
+    c.finish.result (returns-in-Ok-clause-found g c) c.finish.ensures.room
+
+pub returns-in-Err-clause-room : goal.returns-in-Err-clause-room
+returns-in-Err-clause-room g c =
+    room-found _ c.args.instance.now c.args.starts.now c.args.desk.now.moves _ _ (λ o. g.A.Shared.view o.pass) (λ o. o.end) (λ o. o.front) (λ o. o.explored) (λ o. o.evaluated) (λ o. o.accepted)
+    c.give_up.result (returns-in-Err-clause-found g c) c.give_up.ensures.room

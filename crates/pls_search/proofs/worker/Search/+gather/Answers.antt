@@ -3,6 +3,7 @@ use Rattle.pls_pool.specs.DeskSeats.{tally_of}
 use Rattle.pls_pool.specs.declared.tally.Tally.{Tally}
 use Rattle.pls_search.specs.Workers.{hands}
 use Rattle.pls_search.proofs.Gathered.{IsNewWorker-made, numbers-joined, numbers-count, numbers-apart, gathered}
+use Rattle.pls_search.proofs.Room.{room-joined}
 use Rattle.pls_search.proofs.worker.Search.+gather.Goals as goal
 
 pub join-requires-clause-apart : goal.join-requires-clause-apart
@@ -34,3 +35,8 @@ returns-clause-lacks g t c =
     λ starts of.
     gathered c.args.self.now.instance.now starts _ _ before other after c.in-Some.ensures.count (c.gather-worker.ensures.lacks starts of) new
     c.in-Some.ensures.pass.2 c.join.ensures.joins
+
+pub returns-clause-room : goal.returns-clause-room
+returns-clause-room g t c =
+    let more = (room-joined _ _ _ c.join.ensures.joins.views).0 in
+    let rest = c.gather-worker.ensures.room in omega (arith, more, rest)

@@ -1,7 +1,8 @@
-use Rattle.std.proofs.Common.{rules, sym, ◌∙◌}
+use Rattle.std.proofs.Common.{rules, arith, sym, ◌∙◌}
 use Rattle.pls_pool.specs.DeskSeats.{tally_of}
 use Rattle.pls_search.specs.Workers.{hands}
 use Rattle.pls_search.proofs.Concluded.{accounted, ended}
+use Rattle.pls_search.proofs.Room.{room-asked, room-told}
 use Rattle.pls_search.proofs.worker.Search.conclude.Goals as goal
 
 pub returns-in-Ok-clause-found : goal.returns-in-Ok-clause-found
@@ -16,3 +17,9 @@ returns-in-Ok-clause-found g c = λ starts small left.
     ended c.args.self.now.instance.now starts moves _ (hands view account tally c.args.worker.explored c.args.worker.evaluated) told small (search rules) (search rules) (g.A.Law.Rule.front number) (g.A.Law.Rule.reply number)
     (g.A.Law.Rule.laws number) c.in-Ok.front _ (g.A.Shared.view c.snapshot.new.pass) c.in-Ok.ensures.answers
     (c.requires.seats.1.seats_are ∙ sym c.requires.passes) c.args.left c.in-Some.end c.in-Some.ensures left
+
+pub returns-in-Ok-clause-room : goal.returns-in-Ok-clause-room
+returns-in-Ok-clause-room g c = λ full.
+    let more = room-asked _ _ _ _ _ _ c.in-Ok.ensures.answers in
+    let enough = c.requires.room (room-told c.args.left c.in-Some.end c.in-Some.ensures full) in
+    omega (arith, more, enough)

@@ -1,4 +1,5 @@
 use Rattle.std.proofs.Common.{sym, ◌∙◌}
+use Rattle.pls_search.proofs.Room.{room-observed}
 use Rattle.pls_search.proofs.worker.Search.depart.Goals as goal
 
 pub returns-clause-departs : goal.returns-clause-departs
@@ -8,3 +9,6 @@ returns-clause-departs g c = record {
   seats = c.work-end.ensures.seats.1.seats_are ∙ sym c.requires.seats.1.seats_are;
   in_line = λ one. c.work-end.ensures.in_line (c.requires.alike ∙ (sym c.requires.seats.1.seats_are ∙ one));
 }
+
+pub returns-clause-room : goal.returns-clause-room
+returns-clause-room g c = λ is. room-observed _ _ (c.work-end.ensures.room is)

@@ -2,6 +2,7 @@ use Rattle.std.proofs.Common.{rules, sym, ◌∙◌}
 use Rattle.pls_pool.specs.DeskSeats.{tally_of}
 use Rattle.pls_search.specs.Workers.{hands}
 use Rattle.pls_search.proofs.Leavings.{Leaves-went_on}
+use Rattle.pls_search.proofs.Room.{room-observed}
 use Rattle.pls_search.proofs.worker.Search.go_on.Goals as goal
 
 pub returns-in-Ok-clause-leaves : goal.returns-in-Ok-clause-leaves
@@ -12,3 +13,9 @@ returns-in-Ok-clause-leaves g c =
     c.work.ensures.goes_on c.work.ensures.left (search rules)
     (c.work.ensures.seats.1.seats_are ∙ sym c.requires.seats.1.seats_are)
     (λ one. c.work.ensures.in_line (c.requires.alike ∙ (sym c.requires.seats.1.seats_are ∙ one)))
+
+pub returns-in-Ok-clause-room : goal.returns-in-Ok-clause-room
+returns-in-Ok-clause-room g c = λ is. room-observed _ _ (c.work.ensures.room is)
+
+pub returns-in-Err-clause-room : goal.returns-in-Err-clause-room
+returns-in-Err-clause-room g c = λ is. c.requires.room (c.in-Err.is ∙ is)
