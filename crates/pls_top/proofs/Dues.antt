@@ -1,9 +1,11 @@
 -- What may be due, by cases, and for which bytes.
-use Rattle.std.proofs.Common.{◌≡◌, ℕ, Bool, true, false, List, Option, None, Some, Result, Ok, Err, [], refl, ◌≤◌, ◌<◌, length, IsOk, ap, sym, ◌∙◌, subst, nat_le}
+use Rattle.std.proofs.Common.{◌≡◌, ℕ, Bool, true, false, List, Option, None, Some, Result, Ok, Err, [], refl, ◌≤◌, ◌<◌, length, IsOk, ap, sym, ◌∙◌, subst, nat_le, le-leb, if◌then◌else◌}
 use Rattle.std.proofs.lemmas.Bool.{cond_both, leb-true, leb-false, lt-leb}
 use Rattle.pls_archive.specs.View.{View}
+use Rattle.pls_io.specs.Refusals.{TakesAll}
 use Rattle.pls_problem.specs.declared.instance.Instance.{Instance}
 use Rattle.pls_problem.specs.declared.reader.BadInstance.{BadInstance as Fault}
+use Rattle.pls_problem.specs.Made.{made}
 use Rattle.pls_problem.specs.Reading.{instance}
 use Rattle.pls_search.specs.declared.end.End.{End}
 use Rattle.pls_search.specs.declared.end.End.TheVariants as end
@@ -12,8 +14,8 @@ use Rattle.pls_settings.specs.declared.choices.Mode.TheVariants.{Search, Make, D
 use Rattle.pls_settings.specs.declared.choices.Settings.{Settings}
 use Rattle.pls_top.specs.declared.status.Status.{Status}
 use Rattle.pls_top.specs.declared.status.Status.TheVariants.{Closed, Stopped, Usage, BadInstance, Full, TooLong}
-use Rattle.pls_top.specs.Answer.{code_of, Searches}
-use Rattle.pls_top.specs.Due.{Due, status_at, searched, demonstrated, written_out, due_for, due_in, due, searched_in, is_search, reads, most_bytes, usage_line, too_long_line, instance_line}
+use Rattle.pls_top.specs.Answer.{code_of, Searches, Tells}
+use Rattle.pls_top.specs.Due.{Due, status_at, searched, demonstrated, written_out, due_for, due_in, due, instance_read, searched_in, searched_for, is_search, reads, most_bytes, usage_line, too_long_line, instance_line}
 use Rattle.pls_top.specs.Runs.{SearchRun, HasRun}
 
 -- it is a search whose bytes are an instance, or what asks for no bytes
@@ -136,3 +138,25 @@ Searches-long (Some s) journal r bytes asked long = HasRun-none s (searched_in s
 -- a run that made nothing
 abbrev pub no_run : SearchRun
 no_run = record { accepting = 0; first = record { starts = []; explorations = []; last = [] }; others = []; end = end.Closed }
+
+-- ---- where nothing is searched
+
+-- a demonstration searches, whatever the bytes
+pub demo_searches : (given : Option Settings) (s : Settings) (bytes : List ℕ) → given ≡ Some s → s.mode ≡ Demo → searched_for given bytes ≡ None → ⊥
+demo_searches given s bytes is mode none =
+    let of : searched_for (Some s) bytes ≡ None = subst (λ (x : Option Settings). searched_for x bytes ≡ None) is none in
+    let h : Some (made s.make) ≡ None = subst (λ (m : Mode). searched_in m s bytes ≡ None) mode of in cc
+
+-- so does a search of an instance that was read
+pub read_searches : (read : Result Instance Fault) (i : Instance) → read ≡ Ok i → instance_read read ≡ None → ⊥
+read_searches read i is none = let h : Some i ≡ None = sym (ap instance_read is) ∙ none in cc
+
+-- where what the source tells is no instance to search, the text that was read is none
+pub unsearched_text :
+    (s : Settings) (left left' : Option (List ℕ)) (text bytes : List ℕ) → s.mode ≡ Search → TakesAll most_bytes left text left' → Tells (Some s) left bytes
+    → searched_for (Some s) bytes ≡ None → instance_read (instance text) ≡ None
+unsearched_text s left left' text bytes mode all tells none =
+    let same : text ≡ bytes = all.whole bytes (tells (ap is_search mode)) in
+    let search : searched_in Search s bytes ≡ None = subst (λ (m : Mode). searched_in m s bytes ≡ None) mode none in
+    let read : searched_in Search s text ≡ None = subst (λ (t : List ℕ). searched_in Search s t ≡ None) (sym same) search in
+    sym (ap (λ (b : Bool). if b then instance_read (instance text) else None) (le-leb (length text) most_bytes all.within)) ∙ read

@@ -7,18 +7,20 @@ use Rattle.std.proofs.lemmas.List.Sorted.{All-permutation}
 use Rattle.pls_archive.specs.declared.point.Point.{Point}
 use Rattle.pls_archive.specs.declared.call.Call.TheVariants.{Update}
 use Rattle.pls_archive.specs.declared.call.Entry.{Entry}
-use Rattle.pls_archive.specs.Lists.{Every}
+use Rattle.pls_archive.specs.Lists.{Every, total, one_if}
 use Rattle.pls_archive.specs.Rule.{submitted_by}
-use Rattle.pls_archive.specs.History.{submissions, accepts}
+use Rattle.pls_archive.specs.History.{submissions, accepts, accepting}
 use Rattle.pls_archive.specs.NondominatedRule.{nondominated-IsRule}
 use Rattle.pls_archive.specs.Reply.{members, in_order, nondominated}
-use Rattle.pls_archive.specs.Serialization.{accepting_at, others_at, at_stamp, serialization}
+use Rattle.pls_archive.specs.Serialization.{accepting_at, others_at, at_stamp, serialization, AreSequentiallyConsistent}
 use Rattle.pls_archive.specs.Explorations.{CallerRun, entries_of_run}
 use Rattle.pls_archive.specs.SearchRun.{SubmitsFirst, missing, IsClosed, IsStopped}
-use Rattle.pls_archive.proofs.Every.{Every-append, Every-left, Every-right, Every-filter, Every-at}
+use Rattle.pls_archive.proofs.Counted.{same_totals, counts_accepting}
+use Rattle.pls_archive.proofs.Every.{Every-append, Every-left, Every-right, Every-filter, Every-at, total-same, length-filter, length-flat_map}
 use Rattle.pls_archive.proofs.InOrder.{in_order-IsPermutation, in_order-IsSorted}
 use Rattle.pls_archive.proofs.LocalOptima.{ends_in_local_optima}
 use Rattle.pls_archive.proofs.Membership.{All-In}
+use Rattle.pls_archive.proofs.OwnOrder.{own_order}
 use Rattle.pls_archive.proofs.Printed.{in_order-incomparable, in_order-submitted, in_order-covers, in_order-IsParetoLocalOptimumSet}
 use Rattle.pls_archive.proofs.Stopped.{stops_with_more}
 use Rattle.pls_problem.specs.declared.instance.Instance.{Instance}
@@ -29,7 +31,7 @@ use Rattle.pls_search.specs.declared.end.End.TheVariants.{Closed, Stopped, Full}
 use Rattle.pls_search.specs.Neighbours.{point_of, neighbours_of, IsPointOf}
 use Rattle.pls_search.specs.Outcomes.{EndsAs}
 use Rattle.pls_settings.specs.declared.choices.Settings.{Settings}
-use Rattle.pls_top.specs.Front.{IsSoundRun}
+use Rattle.pls_top.specs.Front.{IsSoundRun, callers_lists}
 use Rattle.pls_top.specs.Runs.{SearchRun, runs_of, submissions_of, starts_of, IsRunOf}
 
 -- ---- what holds of each caller's submissions holds of the members
@@ -89,6 +91,14 @@ all_submitted starts first begins none =
     let few = length-take (length first.starts) starts in
     let left = sym (length-drop (length first.starts) starts) ∙ ap length none in omega arith
 
+-- the history has as many accepting entries as the lists
+accepted-history : (n : ℕ) (lists : List (List Entry)) → AreSequentiallyConsistent nondominated n lists → length (accepting (serialization n lists)) ≡ n
+accepted-history n lists consistent =
+    length-filter accepts (serialization n lists)
+    ∙ (same_totals nondominated n lists consistent (λ e. one_if (accepts e))
+    ∙ (sym (total-same (λ es. length (accepting es)) (λ es. total (λ e. one_if (accepts e)) es) (λ es. length-filter accepts es) lists)
+    ∙ (sym (length-flat_map accepting lists) ∙ counts_accepting nondominated n lists consistent)))
+
 module _ (s : Settings) (i : Instance) (r : SearchRun) (is : IsRunOf s i r) where
   none_missing : (e : End) → r.end ≡ e → e ≢ Full → missing (starts_of s i) r.first ≡ []
   none_missing Closed ends other = (subst (λ e. EndsAs (neighbours_of i) (starts_of s i) s.moves e r.first r.others) ends is.ends).started
@@ -108,6 +118,10 @@ module _ (s : Settings) (i : Instance) (r : SearchRun) (is : IsRunOf s i r) wher
       let all = submissions_of r in
       record {
         consistent = is.run.consistent;
+        own_order = own_order nondominated r.accepting (callers_lists r) is.run.consistent;
+        each_once = λ test. same_totals nondominated r.accepting (callers_lists r) is.run.consistent (λ e. one_if (test e));
+        accepted = accepted-history r.accepting (callers_lists r) is.run.consistent;
+        told = is.run.consistent.legal;
         started = λ other.
             all_submitted begin r.first is.run.begins (none_missing r.end refl other)
             ∙ (length-map (starts i s.seed s.starts) (point_of i) ∙ length-starts i s.seed s.starts);

@@ -113,6 +113,11 @@ searched_in Search s bytes = if nat_le (length bytes) most_bytes then instance_r
 searched_in Make s bytes = None
 searched_in Demo s bytes = Some (made s.make)
 
+-- so it is for the settings of the words, if they have any
+abbrev pub searched_for : Option Settings → List ℕ → Option Instance
+searched_for None bytes = None
+searched_for (Some s) bytes = searched_in s.mode s bytes
+
 -- only a search reads the source
 abbrev pub is_search : Mode → Bool
 is_search Search = true

@@ -13,7 +13,7 @@ ghost use Rattle.pls_settings.specs.Limits.{HasLimits};
 ghost use Rattle.pls_settings.specs.declared.choices.Mode.TheVariants.{Search, Make, Demo};
 ghost use Rattle.pls_settings.specs.declared.choices.Settings.{Settings as Chosen};
 ghost use Rattle.pls_top.specs.Answer.{UsageExactly, AsksSource, TooLongExactly, BadInstanceExactly, Tells, IsAnswered, IsUndisturbed, LeavesUnasked, ReadsAll, WritesFaultLine, ReadFailed, ReadLineInPart, AnswersWith};
-ghost use Rattle.pls_top.specs.Due.{due_for, searched, demonstrated, written_out, instance_read, reads, most_bytes};
+ghost use Rattle.pls_top.specs.Due.{due_for, searched, demonstrated, written_out, instance_read, searched_for, reads, most_bytes};
 ghost use Rattle.pls_top.specs.Ending.{Streams, IsEnding, Finishes, FinishesIfMemory, FinishesSearch};
 ghost use Rattle.pls_top.specs.Front.{IsSoundRun};
 ghost use Rattle.pls_top.specs.Runs.{SearchRun, IsRunOf, workers_of, KeepsConsistent};
@@ -70,7 +70,8 @@ pub fn run<R: Threads + Wait + Sync, S: Source, K: Sink, G: Gate>(
     // What a run is worth, of which `answer` says when it was made.
     ensures sound { (s : Chosen) (i : AnyInstance) (r : SearchRun) → IsRunOf s i r → IsSoundRun i s.starts s.moves r }
     ensures journal { (s : Chosen) → line words.now ≡ Some s → KeepsConsistent (workers_of s) journal.old journal.new }
-    ensures no_journal { line words.now ≡ None → journal.new ≡ journal.old }
+    ensures no_journal { (bytes : List ℕ) → Tells (line words.now) (S.left source.old) bytes
+        → searched_for (line words.now) bytes ≡ None → journal.new ≡ journal.old }
 
     // What is left in the source.
     ensures rest { TakesSome (S.left source.old) (S.left source.new) }
@@ -106,7 +107,8 @@ fn serve<R: Threads + Wait + Sync, S: Source, K: Sink, G: Gate>(
     ensures rest { TakesSome (S.left source.old) (S.left source.new) }
     ensures unasked { LeavesUnasked (line words.now) (S.faults source.old) (S.faults source.new) (S.left source.old) (S.left source.new) }
     ensures journal { (s : Chosen) → line words.now ≡ Some s → KeepsConsistent (workers_of s) journal.old journal.new }
-    ensures no_journal { line words.now ≡ None → journal.new ≡ journal.old }
+    ensures no_journal { (bytes : List ℕ) → Tells (line words.now) (S.left source.old) bytes
+        → searched_for (line words.now) bytes ≡ None → journal.new ≡ journal.old }
     ensures never_full { result ≡ Status.Full → ⊥ }
     ensures ending { IsEnding (line words.now) journal.new
         (record { read_faults = S.faults source.old; left = S.left source.old; write_faults = K.faults sink.old; written = K.written sink.old })
@@ -137,6 +139,8 @@ fn search_source<R: Threads + Wait + Sync, S: Source, K: Sink, G: Gate>(
     requires mode { settings.now.mode ≡ Search }
     requires limits { HasLimits settings.now }
     ensures journal { KeepsConsistent (workers_of settings.now) journal.old journal.new }
+    ensures no_journal { (bytes : List ℕ) → Tells (Some settings.now) (S.left source.old) bytes
+        → searched_for (Some settings.now) bytes ≡ None → journal.new ≡ journal.old }
     ensures source_count { S.faults source.old ≤ S.faults source.new }
     ensures sink_count { K.faults sink.old ≤ K.faults sink.new }
     ensures rest { TakesSome (S.left source.old) (S.left source.new) }
@@ -170,6 +174,7 @@ fn answer<R: Threads + Wait + Sync, K: Sink, G: Gate>(
     ensures count { K.faults sink.old ≤ K.faults sink.new }
     ensures never_full { result ≡ Status.Full → ⊥ }
     ensures journal { KeepsConsistent (workers_of settings.now) journal.old journal.new }
+    ensures no_journal { instance_read (instance text.now) ≡ None → journal.new ≡ journal.old }
     ensures finishes { FinishesSearch settings.now (instance_read (instance text.now)) journal.new (λ r. due_for r (instance text.now))
         (K.faults sink.old) (K.faults sink.new) (K.written sink.old) (K.written sink.new) result }
 {

@@ -43,3 +43,6 @@ returns-clause-sound g c = IsRunOf-IsSoundRun
 
 pub returns-clause-answer : goal.returns-clause-answer
 returns-clause-answer g c bytes tells = answers_with _ _ _ _ _ bytes tells c.serve.ensures.ending
+
+pub returns-clause-no_journal : goal.returns-clause-no_journal
+returns-clause-no_journal g c = c.serve.ensures.no_journal
