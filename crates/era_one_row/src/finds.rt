@@ -1,14 +1,13 @@
-//! Finding a row for a replacement.
+//! Finding a row.
 ghost use Rattle.std.specs.Prelude.{◌≡◌, ℕ, Some};
 ghost use Rattle.era_rows.specs.Passes.{known_of, IsPassOf, HasSame};
 ghost use Rattle.era_one_row.specs.Finding.{FindsRow};
 
-use crate::law::OneRow;
-use era_rows::{Pass, Rows};
+use era_rows::{Law, Pass, Rows};
 
 /// A free row. Where none is found, the pass frees what it retired and no reservation blocks, and looks again. The answer is
 /// None only where an owner was found in each row both times, and then the pass has recorded it.
-pub fn find_row(rows: &Rows<OneRow>, pass: &mut Pass<OneRow>) -> Option<u32>
+pub fn find_row<L: Law>(rows: &Rows<L>, pass: &mut Pass<L>) -> Option<u32>
     requires pass { IsPassOf rows.now pass.old }
     requires pinned { (n p : ℕ) × ((known_of pass.old).core.pinned ≡ Some (n, p)) }
     ensures pass { IsPassOf rows.now pass.new }

@@ -12,6 +12,7 @@ mod accessors;
 mod joins;
 mod law;
 mod laws;
+mod marks;
 mod memory;
 mod pass;
 mod pins;

@@ -19,19 +19,6 @@ use era_core::{LAST_VERSION, ROOT_ROWS, packed};
 use std::marker::Brand;
 
 impl<L: Law> Rows<L> {
-    /// Marks a row of the pinned tree, which the next publication retires.
-    pub fn mark(&self, pass: &mut Pass<L>, row: u32)
-        requires pass { IsPassOf self.now pass.old }
-        requires row { In row (pinned_copy (known_of pass.old)).rows }
-        requires unmarked { times row (marked_of pass.old) ≡ 0 }
-        ensures pass { IsPassOf self.now pass.new }
-        ensures same { IsSamePass pass.old pass.new }
-        ensures known { knows_of pass.new ≡ knows_of pass.old }
-        ensures marked { marked_of pass.new ≡ marked_of pass.old ++ row ∷ [] }
-    {
-        pass.marked.push_reserved(row);
-    }
-
     // Puts a tree in the place of the pinned one, if no other was put there: the root word that was found.
     fn exchange_root<W: Said<L::Entry>, N: Names<L>>(
         &self,
