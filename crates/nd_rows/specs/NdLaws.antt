@@ -41,7 +41,7 @@ module _ (cells : List Cell) (r : ℕ) where
         let first : known cells r 0 ≡ 4 * length links + kind = ap (λ o. unwrap_or o 0) row.first in
         let e : known cells r 0 / 4 ≡ length links = omega arith in e
 
-    links_are : known_links cells r ≡ links
+    pub links_are : known_links cells r ≡ links
     links_are =
         ap (λ n. run_of (known cells r) 1 n) (ap (λ n. min MOST_LINKS n) count ∙ (let e : min 39 (length links) ≡ length links = omega arith in e))
         ∙ run_of-words 1 links row.linked

@@ -20,3 +20,4 @@ pub use law::{Adds, NdLaw};
 pub use layout::{FIRST_LINK, IDEAL, INNER, LEAF, NADIR, PARTS, POINT, SOL_LEN, SOL_WORDS, VALUE};
 pub use points::gather;
 pub use questions::{covered, member};
+pub use reads::{part_word, sided, word};

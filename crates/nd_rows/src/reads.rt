@@ -15,8 +15,8 @@ use era_core::WIDTH;
 use era_rows::{Pass, Rows};
 use pls_vectors::{Vector, to_word};
 
-// The word of a row of the pinned version at a place.
-pub(crate) fn word(rows: &Rows<NdLaw>, pass: &mut Pass<NdLaw>, row: u32, place: u32) -> u64
+/// The word of a row of the pinned version at a place.
+pub fn word(rows: &Rows<NdLaw>, pass: &mut Pass<NdLaw>, row: u32, place: u32) -> u64
     requires pass { IsPassOf rows.now pass.old }
     requires row { In row (pinned_copy (known_of pass.old)).rows }
     requires place { place < WIDTH }
@@ -27,8 +27,8 @@ pub(crate) fn word(rows: &Rows<NdLaw>, pass: &mut Pass<NdLaw>, row: u32, place: 
     rows.read(pass, row, place)
 }
 
-// The word of a part.
-pub(crate) fn part_word(value: &Vector, k: usize) -> u64
+/// The word of part `k` of a value.
+pub fn part_word(value: &Vector, k: usize) -> u64
     requires { k < length value.now }
     ensures value { result ≡ to_word (slice_index_or value.now k (pos 0)) }
     ensures in_range { IsTrue (is_part (slice_index_or value.now k (pos 0))) }
@@ -47,9 +47,9 @@ fn at_least(turned: bool, found: u64, wanted: u64) -> bool
     }
 }
 
-// Whether the parts that stand in a row from a place on are at least those of the value, or at most where they are turned round,
-// up to the first that is not; and if so, whether all are equal.
-pub(crate) fn sided(
+/// Whether the parts that stand in a row of the pinned version from a place on are at least those of the value, or at most where they
+/// are turned round; and if so, whether all are equal. It stops at the first that is not.
+pub fn sided(
     rows: &Rows<NdLaw>,
     pass: &mut Pass<NdLaw>,
     row: u32,
