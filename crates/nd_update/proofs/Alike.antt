@@ -13,11 +13,11 @@ module _ (objectives : ℕ) (cells cells' : List Cell) where
   abbrev pub Agree : ℕ → Type 0
   Agree r = (p w : ℕ) → look_up cells r p ≡ Some w → look_up cells' r p ≡ Some w
 
-  words-alike : (r p : ℕ) (ws : List ℕ) → Agree r → HasWords cells r p ws → HasWords cells' r p ws
+  pub words-alike : (r p : ℕ) (ws : List ℕ) → Agree r → HasWords cells r p ws → HasWords cells' r p ws
   words-alike r p [] same has = tt
   words-alike r p (w ∷ ws) same has = (same p w has.0, words-alike r (p + 1) ws same has.1)
 
-  value-alike : (r p : ℕ) (v : List ℤ) → Agree r → HasValue objectives cells r p v → HasValue objectives cells' r p v
+  pub value-alike : (r p : ℕ) (v : List ℤ) → Agree r → HasValue objectives cells r p v → HasValue objectives cells' r p v
   value-alike r p v same has = record { words = words-alike r p _ same has.words; is_value = has.is_value; parts = has.parts }
 
   pub links-alike : (kind r : ℕ) (links : List ℕ) → Agree r → IsLinkRow cells kind r links → IsLinkRow cells' kind r links
@@ -38,7 +38,7 @@ module _ (objectives : ℕ) (cells cells' : List Cell) where
     all_words = is.all_words;
   }
 
-  points-alike : (placed : List Placed) → ((r : ℕ) → In r (rows_with placed) → Agree r) → Every (IsPointRow objectives cells) placed → Every (IsPointRow objectives cells') placed
+  pub points-alike : (placed : List Placed) → ((r : ℕ) → In r (rows_with placed) → Agree r) → Every (IsPointRow objectives cells) placed → Every (IsPointRow objectives cells') placed
   points-alike [] same each = tt
   points-alike (p ∷ placed) same each =
       (point-alike p (same p.row (in_head p.row (rows_with placed))) each.0, points-alike placed (λ r here. same r (in_tail r p.row (rows_with placed) here)) each.1)

@@ -108,7 +108,7 @@ module _ (new d : ℕ) (some : 2 ≤ d) (few : d ≤ 4) (b : Box) (placed : List
   once : 20 < length placed → IsPermutation (places (length placed)) (concat groups)
   once many = subst (λ (n : ℕ). IsPermutation (places n) (concat groups)) length-values (once-split (values_with placed) (fewer many))
 
-  many_groups : 20 < length placed → length groups ≡ d + 1
+  pub many_groups : 20 < length placed → length groups ≡ d + 1
   many_groups many = count-split (values_with placed) (fewer many) ∙ ap (λ n. n + 1) (first-parts many)
 
   length-group : 20 < length placed → Every (λ ks. length (at_places placed ks) ≡ length ks) groups
@@ -139,6 +139,16 @@ module _ (new d : ℕ) (some : 2 ≤ d) (few : d ≤ 4) (b : Box) (placed : List
       (λ ks h. let same = h.0 in let one = h.1.0 in let left = h.1.1 in (omega arith, omega arith)) groups
       (Every-paired (λ ks. length (at_places placed ks) ≡ length ks) (λ ks. (0 < length ks) × (length ks + length groups ≤ total length groups + 1)) groups (length-group many)
       (Every-paired (λ ks. 0 < length ks) (λ ks. length ks + length groups ≤ total length groups + 1) groups nonempty (others groups nonempty)))
+
+  -- each group of 21 points has one, and leaves one to another
+  pub few-groups : length placed ≡ 21 → Every (λ ks. (0 < length ks) × (length ks ≤ 20)) groups
+  few-groups full =
+      let many : 20 < length placed = omega arith in
+      let nonempty = Every-from_All (λ ks. 0 < length ks) groups (some-split (values_with placed) (fewer many)) in
+      let all = total-lengths many in
+      let n = many_groups many in
+      Every-map (λ ks. (0 < length ks) × (length ks + length groups ≤ total length groups + 1)) (λ ks. (0 < length ks) × (length ks ≤ 20)) (λ ks h. (h.0, (let left = h.1 in omega arith))) groups
+      (Every-paired (λ ks. 0 < length ks) (λ ks. length ks + length groups ≤ total length groups + 1) groups nonempty (others groups nonempty))
 
   -- the points of the groups, by counts
   pub points-divided : (f : Point → ℕ) → total f (points_of (divided new b placed later)) ≡ total f (points_with placed) + total f (points_of later)

@@ -22,7 +22,7 @@ module _ (new : ℕ) where
   points-placed (p ∷ placed) [] are = absurd are
   points-placed (p ∷ placed) (q ∷ named) are = ap₂ (λ x xs. x ∷ xs) are.1 (points-placed placed named are.2)
 
-  length-placed : (placed named : List Placed) → ArePlacedNamed new placed named → length named ≡ length placed
+  pub length-placed : (placed named : List Placed) → ArePlacedNamed new placed named → length named ≡ length placed
   length-placed [] [] are = refl
   length-placed [] (q ∷ named) are = absurd are
   length-placed (p ∷ placed) [] are = absurd are
@@ -116,10 +116,10 @@ module _ (new : ℕ) where
         let before = total-append known (rows_of kids) (rows_of later) in
         let after = times-append x (rows_of named) (rows_of others) in omega arith
 
-  name-new : (r name : ℕ) → r ≡ new → name_of new r name ≡ name ∷ []
+  pub name-new : (r name : ℕ) → r ≡ new → name_of new r name ≡ name ∷ []
   name-new r name e = ap (λ s. if s then name ∷ [] else []) (eq-eqb r new e)
 
-  name-known : (r name : ℕ) → r ≢ new → name_of new r name ≡ []
+  pub name-known : (r name : ℕ) → r ≢ new → name_of new r name ≡ []
   name-known r name other = ap (λ s. if s then name ∷ [] else []) (ne_eqb r new other)
 
   pub known-name : (r name : ℕ) → HasName new r name → r ≢ new → name ≡ r

@@ -135,10 +135,10 @@ module _ (objectives new : ℕ) (p : Point) (c : Copy) (t : Nodes) (may : MayUpd
   v = p.value
 
   some : 2 ≤ objectives
-  some = let low = may.is_value.at_least_two in let e = may.parts in omega arith
+  some = may.some
 
   few : objectives ≤ 4
-  few = let high = may.is_value.at_most_four in let e = may.parts in omega arith
+  few = may.few
 
   abbrev rest : Nodes
   rest = without_dominated new v t

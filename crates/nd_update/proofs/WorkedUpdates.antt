@@ -113,7 +113,8 @@ may_update = record {
     boxed = (record { all = tt; corners = tt }, tt);
     apart = refl;
   };
-  is_value = record { at_least_two = omega arith; at_most_four = omega arith; in_range = refl };
+  some = omega arith;
+  few = omega arith;
   parts = refl;
   uncovered = refl;
   no_row = refl;

@@ -2,3 +2,11 @@ pub mod Removal
 pub mod Insertion
 pub mod Naming
 pub mod Updates
+pub mod Building
+pub mod Left
+pub mod FilledLeaves
+pub mod Ways
+pub mod Sweeps
+pub mod Inserted
+pub mod Built
+pub mod Resting

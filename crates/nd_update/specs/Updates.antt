@@ -2,7 +2,7 @@
 use Rattle.std.specs.Prelude.{Some, ◌≡◌, ◌≢◌, ℕ, ◌+◌, ◌-◌, ◌^◌, ◌≤◌, min, false, not, List, [], ◌∷◌, ◌++◌, length, filter}
 use Rattle.era_core.specs.Lists.{times, In, without}
 use Rattle.era_core.specs.Versions.{Cell, Copy, look_up}
-use Rattle.pls_vectors.specs.Dominance.{IsValue, weakly_dominates}
+use Rattle.pls_vectors.specs.Dominance.{weakly_dominates}
 use Rattle.pls_archive.specs.declared.call.Entry.{Entry}
 use Rattle.pls_archive.specs.declared.point.Point.{Point}
 use Rattle.pls_archive.specs.History.{submissions}
@@ -23,7 +23,8 @@ module _ (objectives new : ℕ) (p : Point) where
   -- the copy reads as this tree, no point weakly dominates the new one, and `new` is the number of no row
   pub record MayUpdate (c : Copy) (t : Nodes) : Type 0 where
     pub is_tree : IsTreeOf objectives c t
-    pub is_value : IsValue p.value
+    pub some : 2 ≤ objectives
+    pub few : objectives ≤ 4
     pub parts : length p.value ≡ objectives
     pub uncovered : some_weakly_dominates (points_of t) p.value ≡ false
     pub no_row : times new c.rows ≡ 0

@@ -1,0 +1,36 @@
+-- A node is copied into a fresh row: its links, word 0, and the box of the row before.
+use Rattle.std.proofs.Common.{ℕ, inr, List, [], ◌∷◌, ◌∙◌, arith}
+use Rattle.era_core.specs.Lists.{In}
+use Rattle.era_core.specs.Versions.{Copy}
+use Rattle.era_rows.specs.Known.{pinned_copy, known_words}
+use Rattle.era_rows.specs.Passes.{known_of, IsReadable}
+use Rattle.era_rows.specs.declared.pass.Pass.{Pass}
+use Rattle.era_rows.specs.declared.rows.Rows.{Rows}
+use Rattle.era_rows.specs.declared.law.Law.{Ghosts}
+use Rattle.pls_archive.specs.declared.call.Entry.{Entry}
+use Rattle.pls_vectors.specs.Box.{Box}
+use Rattle.nd_rows.specs.Layout.{IsBoxRow}
+use Rattle.nd_update.specs.Building.{IsBuilding, Does}
+use Rattle.nd_update.proofs.Alike.{box-alike}
+use Rattle.nd_update.proofs.Building.{does_none, does_wider, does_read, writes_both, pinned_words}
+use Rattle.nd_update.proofs.Removing.{stay_pinned, row_still}
+
+module _ {L : Type 0} {G : Ghosts L Entry} (r : Rows L Entry) where
+  -- nothing was written yet
+  pub writes_none : (p : Pass L Entry G) (own : ℕ) → IsBuilding r p → Does r [] [] (own ∷ []) p p
+  writes_none p own building = does_wider r [] [] [] (own ∷ []) p p (λ x here. absurd (omega (arith, here))) (does_none r p building)
+
+  module _ (p q : Pass L Entry G) (t m c : List ℕ) (does : Does r t m c p q) (row : ℕ) (here : In row (pinned_copy (known_of p)).rows) where
+    pub readable_row : IsReadable row (known_of q)
+    readable_row = inr (row_still r t m c p q does row here)
+
+    -- the box stands among the words that the pass knows
+    pub box_known : (b : Box) → IsBoxRow r.shape (pinned_copy (known_of p)).cells row b → IsBoxRow r.shape (known_words (known_of q)) row b
+    box_known b boxed =
+        box-alike r.shape (pinned_copy (known_of q)).cells (known_words (known_of q)) row b (λ k w there. pinned_words r q does.building row (row_still r t m c p q does row here) k ∙ there)
+        (stay_pinned r (λ (x : Copy). IsBoxRow r.shape x.cells row b) t m c p q does boxed)
+
+  -- all of it was written
+  pub copy_does : (own : ℕ) (p q s1 s2 s3 : Pass L Entry G) → Does r [] [] (own ∷ []) p q → Does r [] [] (own ∷ []) q s1 → Does r [] [] [] s1 s2 → Does r [] [] (own ∷ []) s2 s3 → Does r [] [] (own ∷ []) p s3
+  copy_does own p q s1 s2 s3 links first read box =
+      writes_both r own p s2 s3 (does_read r [] [] (own ∷ []) p s1 s2 (writes_both r own p q s1 links first) read) box

@@ -1,0 +1,48 @@
+use Rattle.std.proofs.Common.{refl, ap, sym, subst, ◌∙◌, arith}
+use Rattle.era_core.specs.Versions.{Copy}
+use Rattle.era_rows.specs.Passes.{known_of}
+use Rattle.nd_update.proofs.Building.{builds_both}
+use Rattle.nd_update.proofs.Going.{may_build, goes_does, goes_both}
+use Rattle.nd_update.proofs.Publishing.{may_update, still_may, publishable}
+use Rattle.nd_update.proofs.builds.write_tree.Goals as goal
+
+pub remove-requires-clause-building : goal.remove-requires-clause-building
+remove-requires-clause-building c = may_build c.args.rows.now c.args.pass.now c.requires.tree.1.0.is_pass
+
+pub remove-requires-clause-pinned : goal.remove-requires-clause-pinned
+remove-requires-clause-pinned c = (c.requires.tree.0, c.requires.tree.1.0.root, c.requires.tree.1.0.pinned)
+
+pub remove-requires-clause-tree : goal.remove-requires-clause-tree
+remove-requires-clause-tree c = (c.requires.tree.1.0.stands.0, c.requires.tree.1.0.stands.1)
+
+pub remove-requires-clause-root : goal.remove-requires-clause-root
+remove-requires-clause-root c = c.requires.tree.1.0.rooted ∙ c.requires.tree.1.1
+
+pub insert-requires-clause-building : goal.insert-requires-clause-building
+insert-requires-clause-building c = c.remove.ensures.does.2.building
+
+pub insert-requires-clause-pinned : goal.insert-requires-clause-pinned
+insert-requires-clause-pinned c = (c.requires.tree.0, c.requires.tree.1.0.root, c.remove.ensures.does.2.builds.pinned ∙ c.requires.tree.1.0.pinned)
+
+pub insert-requires-clause-left : goal.insert-requires-clause-left
+insert-requires-clause-left c =
+    let r = c.args.rows.now in
+    let p = c.args.pass.now in
+    let tree = c.requires.tree.1.0 in
+    let len = c.len.ensures in
+    let may = may_update r p c.requires.tree.0 tree c.args.point.now c.requires.parts (omega (arith, len.some, len.value, c.requires.parts)) (omega (arith, len.few, len.value, c.requires.parts)) c.requires.tree.1.2 in
+    (tree.stands.0, still_may r p c.requires.tree.0 tree c.args.point.now may c.remove.new.pass c.remove.ensures.does.2.builds, (c.in_ok-left.left.removed, c.in_ok-left.ensures.left tree.stands.0 tree.stands.1))
+
+pub returns-clause-built : goal.returns-clause-built
+returns-clause-built c n tree uncovered =
+    let r = c.args.rows.now in
+    let p = c.args.pass.now in
+    let point = c.args.point.now in
+    let len = c.len.ensures in
+    let left = c.in_ok-left.ensures.left tree.stands.0 tree.stands.1 in
+    let may = may_update r p n tree point c.requires.parts (omega (arith, len.some, len.value, c.requires.parts)) (omega (arith, len.few, len.value, c.requires.parts)) uncovered in
+    let removed = c.remove.ensures.does.2 in
+    let ins = c.insert.ensures.does.2.1 in
+    publishable r p n tree point may c.insert.new.pass (builds_both (known_of p) (known_of c.remove.new.pass) (known_of c.insert.new.pass) removed.builds ins.builds) ins.building c.in_ok-root.root c.in_ok-left.left.removed
+    (c.in_ok-root.ensures.inserted tree.stands.0 (still_may r p n tree point may c.remove.new.pass removed.builds) c.in_ok-left.left.removed left)
+    left.settled.counted (ins.same_seen ∙ removed.same_seen)

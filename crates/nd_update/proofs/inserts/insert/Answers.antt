@@ -1,0 +1,26 @@
+use Rattle.std.proofs.Common.{◌≡◌, ℕ, IfSome, Some, sym, subst}
+use Rattle.era_rows.specs.Known.{pinned_copy, known_words}
+use Rattle.era_rows.specs.Passes.{known_of, marked_of}
+use Rattle.nd_rows.specs.Nodes.{Nodes}
+use Rattle.nd_update.specs.Updates.{MayUpdate}
+use Rattle.nd_update.specs.Left.{IsLeft}
+use Rattle.nd_update.specs.Inserted.{IsInserted}
+use Rattle.nd_update.proofs.Alone.{inserted_alone}
+use Rattle.nd_update.proofs.Filling.{if_some}
+use Rattle.nd_update.proofs.inserts.insert.Goals as goal
+
+pub returns-in-None-clause-inserted : goal.returns-in-None-clause-inserted
+returns-in-None-clause-inserted c =
+    let r = c.args.rows.now in
+    if_some c.insert_alone.result _ _
+    (λ leaf is t may removed is_left. inserted_alone r r.shape c.args.point.now c.args.pass.now c.insert_alone.new.pass leaf is.0 is.1 is.2 is.3 t removed c.args.root c.in-None.is is_left)
+    c.insert_alone.ensures.inserted
+
+pub returns-in-Some-clause-inserted : goal.returns-in-Some-clause-inserted
+returns-in-Some-clause-inserted c =
+    let r = c.args.rows.now in
+    let p = c.args.pass.now in
+    let q = c.insert_below.new.pass in
+    subst (λ o. IfSome c.insert_below.result (λ new_root. (t : Nodes) → MayUpdate r.shape r.rows c.args.point.now (pinned_copy (known_of p)) t
+    → (removed : ℕ) → IsLeft r.rows c.args.point.now.value r.shape t (known_words (known_of p)) (known_of p).core.fresh (marked_of p) o removed
+    → IsInserted r.rows r.shape c.args.point.now t (known_words (known_of q)) (known_of q).core.fresh (marked_of q) new_root)) (sym c.in-Some.is) c.insert_below.ensures.inserted

@@ -1,0 +1,157 @@
+use Rattle.std.proofs.Common.{◌≡◌, ◌≢◌, ℕ, List, [], ◌∷◌, ◌++◌, ◌%◌, Some, refl, sym, ap, subst, ◌∙◌, arith}
+use Rattle.era_core.specs.Lists.{In}
+use Rattle.era_core.specs.Versions.{Copy}
+use Rattle.era_rows.specs.Known.{pinned_copy}
+use Rattle.era_rows.specs.Passes.{known_of}
+use Rattle.nd_update.specs.Updates.{MayUpdate}
+use Rattle.nd_update.proofs.Beginning.{left_node, root_unmarked, begins, node_low}
+use Rattle.nd_update.proofs.Building.{does_both, read_does, still_fresh, still_pinned}
+use Rattle.nd_update.proofs.Focusing.{owned_fresh, count_low, leaf_has, child_has, stepped_fresh, stepped_on, ended}
+use Rattle.nd_update.proofs.Landed.{landed_at}
+use Rattle.nd_update.proofs.Owning.{match_none}
+use Rattle.nd_update.proofs.inserts.insert_below.Goals as goal
+
+pub own_node-requires-clause-node : goal.own_node-requires-clause-node
+own_node-requires-clause-node c =
+    let left = c.requires.left in
+    let r = c.args.rows.now in
+    (left.2.1.named, left_node r r.shape c.args.point.now c.args.pass.now c.requires.building left.0 left.1 left.2.0 c.args.root left.2.1)
+
+pub own_node-requires-clause-unmarked : goal.own_node-requires-clause-unmarked
+own_node-requires-clause-unmarked c =
+    let left = c.requires.left in
+    let r = c.args.rows.now in
+    root_unmarked r r.shape c.args.point.now c.args.pass.now c.requires.building left.0 left.1 left.2.0 c.args.root left.2.1
+
+pub loop-stepped-init : goal.loop-stepped-init
+loop-stepped-init c =
+    let r = c.args.rows.now in
+    let p = c.args.pass.now in
+    let q = c.own_node.new.pass in
+    let own = c.in_ok-own.own in
+    let owned = c.in_ok-own.ensures.owned in record {
+      work = c.own_node.ensures.work;
+      mine = owned_fresh r c.args.root own owned.0 owned.1 (own ∷ []) p q owned.2 owned.3;
+      does = (owned.0, owned.1, own ∷ [], owned.2);
+      at = λ t may removed is_left.
+          let has = left_node r r.shape c.args.point.now p c.requires.building t may removed c.args.root is_left in
+          let node = c.in_ok-own.ensures.node is_left.named has in
+          begins r r.shape c.args.point.now p c.requires.building t may removed c.args.root is_left q own owned.0 owned.1 owned.2 owned.3 node (c.in_ok-own.ensures.boxed is_left.named has) (node_low r q owned.2.building r.shape own _ node);
+    }
+
+pub overflow_cast-count : goal.overflow_cast-count
+overflow_cast-count c =
+    let left = c.requires.left in
+    let r = c.args.rows.now in
+    let at = c.loop-stepped.invariant.at left.0 left.1 left.2.0 left.2.1 in
+    let few =
+    count_low r r.shape c.args.point.now left.0 c.loop-stepped.pass c.read_word-first.new.pass c.read_word-first.ensures.does c.loop-stepped.row c.in_ok-own.own c.loop-stepped.stepped c.read_word-first.result c.read_word-first.ensures.word at in
+    omega (arith, few)
+
+pub insert_in_leaf-requires-clause-few : goal.insert_in_leaf-requires-clause-few
+insert_in_leaf-requires-clause-few c =
+    let left = c.requires.left in
+    let r = c.args.rows.now in
+    let at = c.loop-stepped.invariant.at left.0 left.1 left.2.0 left.2.1 in
+    count_low r r.shape c.args.point.now left.0 c.loop-stepped.pass c.read_word-first.new.pass c.read_word-first.ensures.does c.loop-stepped.row c.in_ok-own.own c.loop-stepped.stepped c.read_word-first.result c.read_word-first.ensures.word at
+
+pub insert_in_leaf-requires-clause-linked : goal.insert_in_leaf-requires-clause-linked
+insert_in_leaf-requires-clause-linked c =
+    let left = c.requires.left in
+    let r = c.args.rows.now in
+    let at = c.loop-stepped.invariant.at left.0 left.1 left.2.0 left.2.1 in
+    leaf_has r r.shape c.args.point.now left.0 c.loop-stepped.pass c.read_word-first.new.pass c.read_word-first.ensures.does c.loop-stepped.row c.in_ok-own.own c.loop-stepped.stepped c.read_word-first.result c.read_word-first.ensures.word at c.if-first-eq-LEAF.true
+
+pub returns-in_err-insert_in_leaf-clause-does : goal.returns-in_err-insert_in_leaf-clause-does
+returns-in_err-insert_in_leaf-clause-does c =
+    let r = c.args.rows.now in
+    let so_far = c.loop-stepped.invariant.does in
+    let put = c.insert_in_leaf.ensures.does in
+    let row = c.loop-stepped.row in (
+      so_far.0 ++ put.0,
+      so_far.1 ++ [],
+      (
+        so_far.2 ++ row ∷ put.0,
+        does_both r so_far.0 so_far.1 so_far.2 put.0 [] (row ∷ put.0) c.args.pass.now c.loop-stepped.pass c.insert_in_leaf.new.pass so_far.3
+            (read_does r put.0 [] (row ∷ put.0) c.loop-stepped.pass c.read_word-first.new.pass c.insert_in_leaf.new.pass c.read_word-first.ensures.does put.1),
+      ),
+    )
+
+pub returns-then-first-eq-LEAF-clause-does : goal.returns-then-first-eq-LEAF-clause-does
+returns-then-first-eq-LEAF-clause-does c =
+    let r = c.args.rows.now in
+    let so_far = c.loop-stepped.invariant.does in
+    let put = c.insert_in_leaf.ensures.does in
+    let row = c.loop-stepped.row in (
+      so_far.0 ++ put.0,
+      so_far.1 ++ [],
+      (
+        so_far.2 ++ row ∷ put.0,
+        does_both r so_far.0 so_far.1 so_far.2 put.0 [] (row ∷ put.0) c.args.pass.now c.loop-stepped.pass c.insert_in_leaf.new.pass so_far.3
+            (read_does r put.0 [] (row ∷ put.0) c.loop-stepped.pass c.read_word-first.new.pass c.insert_in_leaf.new.pass c.read_word-first.ensures.does put.1),
+      ),
+    )
+
+pub step_down-requires-clause-node : goal.step_down-requires-clause-node
+step_down-requires-clause-node c =
+    let left = c.requires.left in
+    let r = c.args.rows.now in
+    let so_far = c.loop-stepped.invariant.does in
+    let at = c.loop-stepped.invariant.at left.0 left.1 left.2.0 left.2.1 in
+    let read = c.read_word-first.ensures.does in
+    let q = c.read_word-first.new.pass in
+    let same = still_pinned r [] [] [] c.loop-stepped.pass q read ∙ still_pinned r so_far.0 so_far.1 so_far.2 c.args.pass.now c.loop-stepped.pass so_far.3 in
+    child_has r r.shape c.args.point.now left.0 c.loop-stepped.pass q read c.loop-stepped.row c.in_ok-own.own c.loop-stepped.stepped c.read_word-first.result c.read_word-first.ensures.word at c.if-first-eq-LEAF.false read.building
+    (subst (λ (y : Copy). MayUpdate r.shape r.rows c.args.point.now y left.0) (sym same) left.1)
+
+pub returns-in_err-row-clause-does : goal.returns-in_err-row-clause-does
+returns-in_err-row-clause-does c =
+    let r = c.args.rows.now in
+    let so_far = c.loop-stepped.invariant.does in (
+      so_far.0 ++ [],
+      so_far.1 ++ [],
+      (
+        so_far.2 ++ [],
+        does_both r so_far.0 so_far.1 so_far.2 [] [] [] c.args.pass.now c.loop-stepped.pass c.step_down.new.pass so_far.3
+            (does_both r [] [] [] [] [] [] c.loop-stepped.pass c.read_word-first.new.pass c.step_down.new.pass c.read_word-first.ensures.does c.in_err-row.ensures.does),
+      ),
+    )
+
+pub loop-stepped-preserved : goal.loop-stepped-preserved
+loop-stepped-preserved c =
+    let left = c.requires.left in
+    let r = c.args.rows.now in
+    let so_far = c.loop-stepped.invariant.does in
+    let p = c.loop-stepped.pass in
+    let q = c.read_word-first.new.pass in
+    let s = c.step_down.new.pass in
+    let own = c.in_ok-row.row in
+    let row = c.loop-stepped.row in
+    let read = c.read_word-first.ensures.does in
+    let did = c.in_ok-row.ensures.does in
+    let mine = still_fresh r [] [] [] p q read row c.loop-stepped.invariant.mine in record {
+      work = c.step_down.ensures.work ∙ c.read_word-first.ensures.work ∙ c.loop-stepped.invariant.work;
+      mine =
+          stepped_fresh r r.shape c.args.point.now left.0 p q read row c.in_ok-own.own c.loop-stepped.stepped c.read_word-first.result c.read_word-first.ensures.word (c.loop-stepped.invariant.at left.0 left.1 left.2.0 left.2.1) c.if-first-eq-LEAF.false s own did.0 did.1 did.2 did.3;
+      does = (
+        so_far.0 ++ did.0,
+        so_far.1 ++ did.1,
+        so_far.2 ++ own ∷ row ∷ [],
+        does_both r so_far.0 so_far.1 so_far.2 did.0 did.1 (own ∷ row ∷ []) c.args.pass.now p s so_far.3 (read_does r did.0 did.1 (own ∷ row ∷ []) p q s read did.2),
+      );
+      at = λ t may removed is_left.
+          stepped_on r r.shape c.args.point.now t p q read row c.in_ok-own.own c.loop-stepped.stepped c.read_word-first.result c.read_word-first.ensures.word (c.loop-stepped.invariant.at t may removed is_left) c.if-first-eq-LEAF.false s own did.0 did.1 did.2 read.building mine did.3;
+    }
+
+pub unreachable-requires : goal.unreachable-requires
+unreachable-requires c =
+    let left = c.requires.left in
+    let r = c.args.rows.now in
+    ended r.shape r.rows c.args.point.now left.0 (known_of c.loop-stepped.pass) _ c.loop-stepped.row c.in_ok-own.own c.loop-stepped.stepped (c.loop-stepped.invariant.at left.0 left.1 left.2.0 left.2.1) c.loop-stepped-test.false
+
+pub returns-then-first-eq-LEAF-clause-inserted : goal.returns-then-first-eq-LEAF-clause-inserted
+returns-then-first-eq-LEAF-clause-inserted c t may removed is_left =
+    let r = c.args.rows.now in
+    let put = c.in_ok-insert_in_leaf.ensures.put in
+    landed_at r r.shape c.args.point.now t c.loop-stepped.pass c.read_word-first.new.pass c.read_word-first.ensures.does c.loop-stepped.row c.in_ok-own.own c.loop-stepped.stepped c.read_word-first.result c.read_word-first.ensures.word
+    (c.loop-stepped.invariant.at t may removed is_left) c.if-first-eq-LEAF.true c.insert_in_leaf.new.pass put.0 put.1 put.2 may.some may.few may.parts put.3 c.insert_in_leaf.ensures.kept

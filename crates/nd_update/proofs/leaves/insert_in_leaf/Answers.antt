@@ -1,0 +1,105 @@
+use Rattle.std.proofs.Common.{◌≡◌, ℕ, ◌+◌, ◌*◌, ◌≤◌, inr, Some, List, [], ◌∷◌, ◌++◌, length, refl, sym, ap, subst, ◌∙◌, arith}
+use Rattle.era_core.specs.declared.sizes.TheConstants.{KINDS}
+use Rattle.era_core.specs.Versions.{look_up}
+use Rattle.era_core.proofs.ListFacts.{in_head}
+use Rattle.era_rows.specs.Known.{known_words}
+use Rattle.era_rows.specs.Passes.{known_of}
+use Rattle.nd_rows.specs.declared.layout.TheConstants.{LEAF, FIRST_LINK, IDEAL}
+use Rattle.nd_rows.specs.Nodes.{Placed}
+use Rattle.nd_update.specs.Building.{Outside}
+use Rattle.nd_update.proofs.Building.{now_fresh, still_fresh, writes_both}
+use Rattle.nd_update.proofs.Filling.{if_some, row_fresh, linked_on, put_does, put_kept, put_fits, put_full, leaf_row}
+use Rattle.nd_update.proofs.leaves.insert_in_leaf.Goals as goal
+
+pub write_point-requires-clause-fresh : goal.write_point-requires-clause-fresh
+write_point-requires-clause-fresh c = let at = c.in_ok-at.at in now_fresh c.args.rows.now (at ∷ []) [] [] c.args.pass.now c.take_row.new.pass c.in_ok-at.ensures.does at (in_head at [])
+
+pub divide-requires-clause-fresh : goal.divide-requires-clause-fresh
+divide-requires-clause-fresh c = row_fresh c.args.rows.now c.args.rows.now.shape c.in_ok-at.at c.args.row c.args.pass.now c.take_row.new.pass c.write_point.new.pass c.in_ok-at.ensures.does c.write_point.ensures.does c.requires.fresh
+
+pub divide-requires-clause-linked : goal.divide-requires-clause-linked
+divide-requires-clause-linked c =
+    let placed = c.requires.linked.0 in (
+      placed,
+      linked_on c.args.rows.now c.args.rows.now.shape c.in_ok-at.at c.args.row c.args.pass.now c.take_row.new.pass c.write_point.new.pass c.in_ok-at.ensures.does c.write_point.ensures.does c.requires.fresh placed c.requires.linked.1,
+      c.requires.linked.2 ∙ c.if-count.true,
+    )
+
+pub returns-then-count-clause-does : goal.returns-then-count-clause-does
+returns-then-count-clause-does c =
+    let at = c.in_ok-at.at in
+    let filled = c.divide.ensures.does in (
+      at ∷ filled.0,
+      put_does c.args.rows.now c.args.rows.now.shape at c.args.row c.args.pass.now c.take_row.new.pass c.write_point.new.pass c.in_ok-at.ensures.does c.write_point.ensures.does c.requires.fresh c.divide.new.pass filled.0 filled.1,
+    )
+
+pub returns-then-count-clause-kept : goal.returns-then-count-clause-kept
+returns-then-count-clause-kept c =
+    let filled = c.divide.ensures.does in
+    put_kept c.args.rows.now c.args.rows.now.shape c.in_ok-at.at c.args.row c.args.pass.now c.take_row.new.pass c.write_point.new.pass c.in_ok-at.ensures.does c.write_point.ensures.does c.requires.fresh c.divide.new.pass filled.0 filled.1
+    c.divide.ensures.kept
+
+pub returns-then-count-clause-put : goal.returns-then-count-clause-put
+returns-then-count-clause-put c =
+    let r = c.args.rows.now in
+    let at = c.in_ok-at.at in
+    if_some c.divide.result _ _
+    (λ u filled. (
+      at,
+      filled.0,
+      put_does r r.shape at c.args.row c.args.pass.now c.take_row.new.pass c.write_point.new.pass c.in_ok-at.ensures.does c.write_point.ensures.does c.requires.fresh c.divide.new.pass filled.0 filled.1,
+      λ placed has long.
+          put_full r r.shape at c.args.row c.args.pass.now c.take_row.new.pass c.write_point.new.pass c.in_ok-at.ensures.does c.write_point.ensures.does c.requires.fresh c.divide.new.pass filled.0 filled.1 placed c.args.point.now
+          (long ∙ c.if-count.true)
+          (filled.2 placed (linked_on r r.shape at c.args.row c.args.pass.now c.take_row.new.pass c.write_point.new.pass c.in_ok-at.ensures.does c.write_point.ensures.does c.requires.fresh placed has) (long ∙ c.if-count.true)
+          (record { row = at; point = c.args.point.now }) refl refl)
+          c.write_point.ensures.point,
+    ))
+    c.divide.ensures.divided
+
+pub write_word-requires-clause-fresh : goal.write_word-requires-clause-fresh
+write_word-requires-clause-fresh c = row_fresh c.args.rows.now c.args.rows.now.shape c.in_ok-at.at c.args.row c.args.pass.now c.take_row.new.pass c.write_point.new.pass c.in_ok-at.ensures.does c.write_point.ensures.does c.requires.fresh
+
+pub write_first-requires-clause-fresh : goal.write_first-requires-clause-fresh
+write_first-requires-clause-fresh c = still_fresh c.args.rows.now [] [] (c.args.row ∷ []) c.write_point.new.pass c.write_word.new.pass c.write_word.ensures.does c.args.row
+    (row_fresh c.args.rows.now c.args.rows.now.shape c.in_ok-at.at c.args.row c.args.pass.now c.take_row.new.pass c.write_point.new.pass c.in_ok-at.ensures.does c.write_point.ensures.does c.requires.fresh)
+
+pub returns-clause-does : goal.returns-clause-does
+returns-clause-does c =
+    let r = c.args.rows.now in
+    let at = c.in_ok-at.at in (
+      at ∷ [],
+      put_does r r.shape at c.args.row c.args.pass.now c.take_row.new.pass c.write_point.new.pass c.in_ok-at.ensures.does c.write_point.ensures.does c.requires.fresh c.write_first.new.pass []
+          (writes_both r c.args.row c.write_point.new.pass c.write_word.new.pass c.write_first.new.pass c.write_word.ensures.does c.write_first.ensures.does),
+    )
+
+pub returns-clause-kept : goal.returns-clause-kept
+returns-clause-kept c =
+    let r = c.args.rows.now in
+    put_kept r r.shape c.in_ok-at.at c.args.row c.args.pass.now c.take_row.new.pass c.write_point.new.pass c.in_ok-at.ensures.does c.write_point.ensures.does c.requires.fresh c.write_first.new.pass []
+    (writes_both r c.args.row c.write_point.new.pass c.write_word.new.pass c.write_first.new.pass c.write_word.ensures.does c.write_first.ensures.does)
+    (λ k high. let few = c.requires.few in c.write_first.ensures.outside c.args.row k (inr (inr (omega (arith, high)))) ∙ c.write_word.ensures.outside c.args.row k (inr (inr (omega (arith, high, few, c.if-count.false)))))
+
+pub returns-clause-put : goal.returns-clause-put
+returns-clause-put c =
+    let r = c.args.rows.now in
+    let at = c.in_ok-at.at in
+    let row = c.args.row in
+    let wrote = writes_both r row c.write_point.new.pass c.write_word.new.pass c.write_first.new.pass c.write_word.ensures.does c.write_first.ensures.does in (
+      at,
+      [],
+      put_does r r.shape at c.args.row c.args.pass.now c.take_row.new.pass c.write_point.new.pass c.in_ok-at.ensures.does c.write_point.ensures.does c.requires.fresh c.write_first.new.pass [] wrote,
+      λ placed has long.
+          let still = linked_on r r.shape at row c.args.pass.now c.take_row.new.pass c.write_point.new.pass c.in_ok-at.ensures.does c.write_point.ensures.does c.requires.fresh placed has in
+          let a = known_words (known_of c.write_point.new.pass) in
+          let b = known_words (known_of c.write_word.new.pass) in
+          let d = known_words (known_of c.write_first.new.pass) in
+          put_fits r r.shape at row c.args.pass.now c.take_row.new.pass c.write_point.new.pass c.in_ok-at.ensures.does c.write_point.ensures.does c.requires.fresh c.write_first.new.pass [] wrote placed c.args.point.now refl
+          (omega (arith, long, c.requires.few, c.if-count.false))
+          (leaf_row row placed (record { row = at; point = c.args.point.now }) a b d still.linked
+          (subst (λ n. Outside row (FIRST_LINK + n) (FIRST_LINK + n + 1) a b) (sym long) c.write_word.ensures.outside)
+          (subst (λ n. look_up b row (FIRST_LINK + n) ≡ Some at) (sym long) (c.write_word.ensures.word ∙ ap Some c.from.ensures))
+          c.write_first.ensures.outside
+          (subst (λ n. look_up d row 0 ≡ Some (KINDS * (n + 1) + LEAF)) (sym long) c.write_first.ensures.word))
+          c.write_point.ensures.point,
+    )

@@ -1,0 +1,12 @@
+use Rattle.std.proofs.Common.{ℕ, ◌<◌, [], length}
+use Rattle.nd_rows.specs.Nodes.{Nodes, heads}
+use Rattle.nd_update.specs.Building.{Does}
+use Rattle.nd_update.specs.Left.{left, entries}
+use Rattle.nd_update.specs.Sweeps.{Lists}
+use Rattle.nd_update.proofs.removes.list_nodes.Given as goal
+
+-- what is left to be looked at stands behind the words of the others
+abbrev pub invariant-loop-k : goal.invariant-loop-k
+invariant-loop-k l =
+    Does l.rows [] [] [] l.fn.pass l.pass
+    × ((t : Nodes) → Lists l.rows t [] l.fn.pass → Lists l.rows (left l.value l.k t) (entries l.value l.k t) l.pass × ((j : ℕ) → j < l.k → 0 < length (heads (left l.value j t))))

@@ -1,0 +1,103 @@
+use Rattle.std.proofs.Common.{◌≡◌, ◌+◌, ◌-◌, [], ◌++◌, subst, arith}
+use Rattle.nd_update.specs.Left.{left, entries}
+use Rattle.nd_update.specs.Sweeps.{Sweeps}
+use Rattle.nd_update.proofs.Building.{does_none, does_both}
+use Rattle.nd_update.proofs.Listing.{length-entries}
+use Rattle.nd_update.proofs.Settling.{pinned_still}
+use Rattle.nd_update.proofs.RemovingAll.{all_length, swept_first, next_settles, removed_few}
+use Rattle.nd_update.proofs.removes.settle_all.Goals as goal
+
+pub loop-settled-init : goal.loop-settled-init
+loop-settled-init c = (
+  ([], [], does_none c.args.rows.now c.args.pass.now c.requires.building),
+  λ t n is all low. swept_first c.args.rows.now c.args.value.now c.args.pass.now c.args.pass.now t n is all c.requires.no_fresh c.requires.no_marks (n - 0) (omega arith),
+)
+
+pub settle-requires-clause-building : goal.settle-requires-clause-building
+settle-requires-clause-building c = c.loop-settled.invariant.0.2.building
+
+pub settle-requires-clause-pinned : goal.settle-requires-clause-pinned
+settle-requires-clause-pinned c =
+    let so_far = c.loop-settled.invariant.0 in pinned_still c.args.rows.now c.args.pass.now c.loop-settled.pass so_far.0 so_far.1 so_far.0 so_far.2 c.requires.pinned
+
+pub settle-requires-clause-node : goal.settle-requires-clause-node
+settle-requires-clause-node c =
+    let r = c.args.rows.now in
+    let v = c.args.value.now in
+    let p = c.args.pass.now in
+    let q = c.loop-settled.pass in
+    let listed = c.requires.listed in
+    let t = listed.0 in
+    let n = listed.1 in
+    let k = c.work_len-len.result - 1 - c.loop-settled.settled in
+    let so_far = c.loop-settled.invariant.0 in
+    let low = c.loop-settled-test.true in
+    let len = c.work_len-len.ensures in
+    let all = all_length r v p q t n listed.2 listed.3 in (
+      left v k t,
+      entries v k t,
+      c.loop-settled.removed,
+      next_settles r v p q t n listed.2 listed.3 so_far.0 so_far.1 so_far.0 so_far.2 k c.loop-settled.removed (n - c.loop-settled.settled) (omega (arith, low, len, all)) (omega (arith, low, len, all))
+          (c.loop-settled.invariant.1 t n listed.2 listed.3 (omega (arith, low, len, all))),
+      length-entries v k t,
+    )
+
+pub overflow_add-removed : goal.overflow_add-removed
+overflow_add-removed c =
+    let r = c.args.rows.now in
+    let v = c.args.value.now in
+    let p = c.args.pass.now in
+    let q = c.loop-settled.pass in
+    let listed = c.requires.listed in
+    let t = listed.0 in
+    let n = listed.1 in
+    let k = c.work_len-len.result - 1 - c.loop-settled.settled in
+    let so_far = c.loop-settled.invariant.0 in
+    let low = c.loop-settled-test.true in
+    let len = c.work_len-len.ensures in
+    let all = all_length r v p q t n listed.2 listed.3 in
+    let few = removed_few r v p c.settle.new.pass t k (c.loop-settled.removed + c.in_ok-removed.field-0) c.requires.building.is_pass listed.2 (entries v k t)
+    (c.in_ok-removed.ensures.settled (left v k t) (entries v k t) c.loop-settled.removed
+    (next_settles r v p q t n listed.2 listed.3 so_far.0 so_far.1 so_far.0 so_far.2 k c.loop-settled.removed (n - c.loop-settled.settled) (omega (arith, low, len, all)) (omega (arith, low, len, all))
+    (c.loop-settled.invariant.1 t n listed.2 listed.3 (omega (arith, low, len, all)))) (length-entries v k t)) in omega (arith, few)
+
+pub loop-settled-preserved : goal.loop-settled-preserved
+loop-settled-preserved c =
+    let r = c.args.rows.now in
+    let v = c.args.value.now in
+    let p = c.args.pass.now in
+    let q = c.loop-settled.pass in
+    let s = c.settle.new.pass in
+    let so_far = c.loop-settled.invariant.0 in
+    let more = c.settle.ensures.does in
+    let k = c.work_len-len.result - 1 - c.loop-settled.settled in (
+      (so_far.0 ++ more.0, so_far.1 ++ more.1, does_both r so_far.0 so_far.1 so_far.0 more.0 more.1 more.0 p q s so_far.2 more.2),
+      λ t n is all room.
+          let low = c.loop-settled-test.true in
+          let len = c.work_len-len.ensures in
+          let same = all_length r v p q t n is all in
+          let swept = c.in_ok-removed.ensures.settled (left v k t) (entries v k t) c.loop-settled.removed
+          (next_settles r v p q t n is all so_far.0 so_far.1 so_far.0 so_far.2 k c.loop-settled.removed (n - c.loop-settled.settled) (omega (arith, low, len, same)) (omega (arith, low, len, same))
+          (c.loop-settled.invariant.1 t n is all (omega (arith, low, len, same)))) (length-entries v k t) in
+          subst (λ i. Sweeps r v (left v i t) (entries v i t) s (c.loop-settled.removed + c.in_ok-removed.field-0)) (let e : k ≡ n - (c.loop-settled.settled + 1) = omega (arith, low, len, same) in e) swept,
+    )
+
+pub returns-clause-does : goal.returns-clause-does
+returns-clause-does c = c.loop-settled.invariant.0
+
+pub returns-clause-swept : goal.returns-clause-swept
+returns-clause-swept c t n is all =
+    let r = c.args.rows.now in
+    let v = c.args.value.now in
+    let same = all_length r v c.args.pass.now c.loop-settled.pass t n is all in
+    let len = c.work_len-len.ensures in
+    let high = c.loop-settled-test.false in
+    let last = c.loop-settled.auto.settled-end in
+    subst (λ i. Sweeps r v (left v i t) (entries v i t) c.loop-settled.pass c.loop-settled.removed) (let e : n - c.loop-settled.settled ≡ 0 = omega (arith, same, len, high) in e)
+    (c.loop-settled.invariant.1 t n is all (omega (arith, same, len, last)))
+
+pub returns-in_err-removed-clause-does : goal.returns-in_err-removed-clause-does
+returns-in_err-removed-clause-does c =
+    let so_far = c.loop-settled.invariant.0 in
+    let more = c.settle.ensures.does in
+    (so_far.0 ++ more.0, so_far.1 ++ more.1, does_both c.args.rows.now so_far.0 so_far.1 so_far.0 more.0 more.1 more.0 c.args.pass.now c.loop-settled.pass c.settle.new.pass so_far.2 more.2)

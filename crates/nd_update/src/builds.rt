@@ -1,0 +1,102 @@
+//! The update of a pinned tree by a point.
+ghost use Rattle.std.specs.Prelude.{◌≡◌, ℕ, false, [], IfOk, IfErr, IfSome, length, take};
+ghost use Rattle.era_rows.specs.Passes.{known_of, seen_of, marked_of, work_of, IsPassOf};
+ghost use Rattle.pls_archive.specs.Archives.{yes_or_no};
+ghost use Rattle.pls_archive.specs.History.{submissions};
+ghost use Rattle.pls_archive.specs.Reply.{nondominated, some_weakly_dominates};
+ghost use Rattle.pls_archive.specs.declared.call.Call.TheVariants.{Covered};
+ghost use Rattle.nd_rows.specs.Nodes.{points_of};
+ghost use Rattle.nd_rows.specs.Reads.{HasPinnedTree};
+ghost use Rattle.nd_update.specs.Built.{Goes, IsPublishable, says_covered};
+
+use crate::inserts::insert;
+use crate::removes::remove;
+use crate::takes::give_all_back;
+use era_rows::{Pass, Rows};
+use nd_rows::{NdLaw, covered};
+use pls_archive::Point;
+
+/// A new tree in fresh rows: its root row, and how many points of the pinned one it has no more.
+#[derive(Clone, Copy, Debug, PartialEq, Eq, Drop)]
+pub struct Built {
+    pub root: u32,
+    pub removed: u32,
+}
+
+/// Why no new tree was built.
+#[derive(Clone, Copy, Debug, PartialEq, Eq, Drop)]
+pub enum BuildRefusal {
+    /// A point of the pinned tree covers the value.
+    Covered,
+    /// No row was free.
+    Full,
+}
+
+// Writes the pinned tree, in which no point covers this one, with the point. None where no row is free.
+fn write_tree(rows: &Rows<NdLaw>, pass: &mut Pass<NdLaw>, root: u32, point: &Point) -> Option<Built>
+    requires tree { (n : ℕ) × ((tree : HasPinnedTree rows.now n pass.old) × (tree.root ≡ root) × (some_weakly_dominates (points_of tree.stands.0) point.now.value ≡ false)) }
+    requires parts { length point.now.value ≡ rows.now.shape }
+    requires no_fresh { (known_of pass.old).core.fresh ≡ [] }
+    requires no_marks { marked_of pass.old ≡ [] }
+    requires idle { work_of pass.old ≡ [] }
+    ensures goes { Goes rows.now pass.old pass.new }
+    ensures work { work_of pass.new ≡ [] }
+    ensures built { IfSome result (λ b. (n : ℕ) (tree : HasPinnedTree rows.now n pass.old) → some_weakly_dominates (points_of tree.stands.0) point.now.value ≡ false → IsPublishable n point.now b pass.new) }
+{
+    let _ = point.value.len();
+    let left = remove(rows, pass, root, &point.value)?;
+    let root = insert(rows, pass, left.root, point)?;
+    Some(Built {
+        root,
+        removed: left.removed,
+    })
+}
+
+// Gives back what was taken for a tree, and takes the marks back.
+fn give_up(rows: &Rows<NdLaw>, pass: &mut Pass<NdLaw>)
+    requires { IsPassOf rows.now pass.old }
+    ensures goes { Goes rows.now pass.old pass.new }
+    ensures fresh { (known_of pass.new).core.fresh ≡ [] }
+    ensures marks { marked_of pass.new ≡ [] }
+    ensures work { work_of pass.new ≡ work_of pass.old }
+{
+    give_all_back(rows, pass);
+    rows.unmark(pass);
+}
+
+/// Builds the pinned tree with one point more in fresh rows: points that the new one weakly dominates go, and nodes without points.
+/// The rows of the pinned tree that the new one has no more are marked, so that the tree can be published.
+///
+/// # Errors
+///
+/// `Covered` exactly where a point of the pinned tree covers the value, and `Full` where no row was free, also after those were
+/// freed that could be. Then the pass has no fresh row and no mark.
+pub fn build(
+    rows: &Rows<NdLaw>,
+    pass: &mut Pass<NdLaw>,
+    point: Point,
+) -> Result<Built, BuildRefusal>
+    requires tree { (n : ℕ) × HasPinnedTree rows.now n pass.old }
+    requires parts { length point.value ≡ rows.now.shape }
+    requires no_fresh { (known_of pass.old).core.fresh ≡ [] }
+    requires no_marks { marked_of pass.old ≡ [] }
+    requires idle { work_of pass.old ≡ [] }
+    ensures goes { Goes rows.now pass.old pass.new }
+    ensures work { work_of pass.new ≡ [] }
+    ensures built { IfOk result (λ b. (n : ℕ) → HasPinnedTree rows.now n pass.old → IsPublishable n point b pass.new) }
+    ensures refused { IfErr result (λ _. ((known_of pass.new).core.fresh ≡ []) × (marked_of pass.new ≡ [])) }
+    ensures covered { (n : ℕ) → HasPinnedTree rows.now n pass.old → yes_or_no (says_covered result) ≡ nondominated (submissions (take n (seen_of pass.old))) (Covered point.value) }
+{
+    let point = &point;
+    if covered(rows, pass, &point.value) {
+        return Err(BuildRefusal::Covered);
+    }
+    let Some(pin) = rows.pinned(pass) else {
+        unreachable!()
+    };
+    let Some(built) = write_tree(rows, pass, pin.1, point) else {
+        give_up(rows, pass);
+        return Err(BuildRefusal::Full);
+    };
+    Ok(built)
+}
