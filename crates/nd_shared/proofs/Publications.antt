@@ -1,0 +1,81 @@
+-- What a publication of the shared tree is to the view of its pass, by its answer.
+use Rattle.std.proofs.Common.{◌≡◌, ℕ, ◌+◌, ◌≤◌, Some, true, List, [], ◌∷◌, ◌++◌, length, take, refl, sym, ap, subst, ◌∙◌, arith, append-nil}
+use Rattle.std.specs.Prelude.{Result, Ok, Err, IfErr}
+use Rattle.std.proofs.lemmas.List.{take_all}
+use Rattle.era_rows.specs.Lists.{add_entry}
+use Rattle.era_rows.specs.Passes.{known_of, knows_of, seen_of, lists_of}
+use Rattle.era_rows.specs.declared.views.Knows.{Knows}
+use Rattle.era_rows.specs.declared.pass.Pass.{Pass}
+use Rattle.era_rows.specs.declared.rows.Rows.{Rows}
+use Rattle.era_rows.specs.declared.law.Law.{Ghosts}
+use Rattle.era_rows.specs.declared.refusal.PublishRefusal.{PublishRefusal}
+use Rattle.era_rows.specs.declared.refusal.PublishRefusal.TheVariants.{Beaten, Spent}
+use Rattle.era_one_row.proofs.Finishing.{Ends, still_pinned, has_published, lists_left}
+use Rattle.pls_archive.specs.declared.call.Call.TheVariants.{Update}
+use Rattle.pls_archive.specs.declared.call.Reply.TheVariants.{Added}
+use Rattle.pls_archive.specs.declared.call.Entry.{Entry}
+use Rattle.pls_archive.specs.declared.point.Point.{Point}
+use Rattle.pls_archive.specs.History.{accepts, submissions}
+use Rattle.pls_archive.specs.Lists.{IsPrefix}
+use Rattle.pls_archive.specs.Reply.{nondominated}
+use Rattle.pls_archive.specs.SharedCalls.{Answers, IsRefused}
+use Rattle.pls_archive.specs.View.{IsConsistent}
+use Rattle.nd_rows.specs.Entries.{IsRight, added as entry_added}
+use Rattle.nd_rows.specs.Layout.{IsLawful, StandsFor}
+use Rattle.nd_update.specs.declared.builds.Built.{Built}
+use Rattle.nd_update.proofs.Published.{none_fresh}
+use Rattle.nd_shared.specs.Views.{AreListed, BuildsAt, view_of}
+use Rattle.nd_shared.proofs.Opening.{still_listed}
+use Rattle.nd_shared.proofs.Telling.{lists_told, added, kept}
+
+-- a publication ends so, under the law of ND-trees
+abbrev pub Closes : ℕ → ℕ → ℕ → Entry → Knows Entry → Knows Entry → Result ℕ PublishRefusal → Type 0
+Closes n root q e before after answer =
+    Ends (λ (e : Entry). e.caller) (λ e. e.stamp) (λ _ e. accepts e) (λ d c. IsLawful d c) (λ d c entries. StandsFor d c entries) (λ d e entries. IsRight d e entries) n root q e before after answer
+
+-- the pass has seen no less
+seen_more : (n root q : ℕ) (e : Entry) (before after : Knows Entry) (answer : Result ℕ PublishRefusal) → Closes n root q e before after answer → IsPrefix before.seen after.seen
+seen_more n root q e before after (Ok v) done = (e ∷ [], sym (ap (λ (k : Knows Entry). k.seen) done.2.2.now))
+seen_more n root q e before after (Err (Beaten v)) done = done.1.2.2.learns.seen_more
+seen_more n root q e before after (Err Spent) done = ([], append-nil before.seen ∙ sym (ap (λ (k : Knows Entry). k.seen) done.1))
+
+module _ {L : Type 0} {G : Ghosts L Entry} (r : Rows L Entry) (n : ℕ) (point : Point) (built : Built) (p q s : Pass L Entry G) (builds : BuildsAt r n point built p q) (number : s.number ≡ q.number)
+    (m : ℕ) (mine : m ≡ q.number) where
+  abbrev entry : Entry
+  entry = entry_added m (n + 1) point built.removed
+
+  abbrev pub Ended : Result ℕ PublishRefusal → Type 0
+  Ended answer = Closes n builds.publishable.root built.root entry (knows_of q) (knows_of s) answer
+
+  pub pinned : (answer : Result ℕ PublishRefusal) → Ended answer → (known_of s).core.pinned ≡ Some (n, builds.publishable.root)
+  pinned answer done = still_pinned _ _ _ _ _ _ _ _ _ _ _ _ answer done ∙ builds.publishable.may.pinned
+
+  module _ (v : ℕ) (done : Ended (Ok v)) where
+    pub no_fresh : (known_of s).core.fresh ≡ []
+    no_fresh = none_fresh _ _ _ _ _ _ _ _ _ _ _ _ v done builds.publishable.used
+
+    adds : lists_of s ≡ add_entry m entry (lists_of q)
+    adds = ap (λ (k : Knows Entry). k.lists) done.2.2.now
+
+    pub listed : AreListed s.number (lists_of s)
+    listed = lists_told r p q s builds.observes_more number m (n + 1) (Update point) (Added built.removed) mine builds.listed adds
+
+    pub answers : (u : Pass L Entry G) → u.number ≡ s.number → seen_of u ≡ seen_of s → lists_of u ≡ lists_of s → IsConsistent nondominated r.passes (view_of u)
+        → Answers nondominated r.passes (view_of p) (Update point) (Added built.removed) v (view_of u)
+    answers u same seen lists sound =
+        let long = builds.all in
+        let whole = take_all n (seen_of q) (omega arith) in
+        subst (λ x. Answers nondominated r.passes (view_of p) (Update point) (Added built.removed) x (view_of u)) (sym done.1)
+        (added r p q u builds.observes_more (same ∙ number) m (n + 1) (Update point) (Added built.removed) mine builds.listed (lists ∙ adds)
+        (builds.publishable.may.is_right.due ∙ ap (λ es. nondominated (submissions es) (Update point)) whole) (let e : n + 1 ≡ length (seen_of q) + 1 = omega arith in e) refl
+        (seen ∙ ap (λ (k : Knows Entry). k.seen) done.2.2.now) sound)
+
+  module _ (refusal : PublishRefusal) (done : Ended (Err refusal)) where
+    pub lists_same : lists_of s ≡ lists_of q
+    lists_same =
+        lists_left (λ (e : Entry). e.caller) (λ e. e.stamp) (λ _ e. accepts e) (λ d c. IsLawful d c) (λ d c entries. StandsFor d c entries) (λ d e entries. IsRight d e entries) n builds.publishable.root built.root entry (knows_of q) (knows_of s)
+        (Err refusal) done
+
+    pub refused : (u : Pass L Entry G) → u.number ≡ s.number → seen_of u ≡ seen_of s → lists_of u ≡ lists_of s → IsConsistent nondominated r.passes (view_of u) → IsRefused nondominated r.passes (view_of p) (view_of u)
+    refused u same seen lists sound =
+        kept r p q u builds.observes_more (same ∙ number) (subst (IsPrefix (seen_of q)) (sym seen) (seen_more n builds.publishable.root built.root entry (knows_of q) (knows_of s) (Err refusal) done)) (lists ∙ lists_same) sound

@@ -1,0 +1,23 @@
+use Rattle.std.proofs.Common.{subst}
+use Rattle.pls_archive.specs.declared.call.Call.TheVariants.{Covered}
+use Rattle.pls_archive.specs.Reply.{nondominated}
+use Rattle.pls_archive.specs.SharedCalls.{Answers}
+use Rattle.nd_shared.specs.Views.{view_of}
+use Rattle.nd_shared.proofs.Opening.{asked}
+use Rattle.nd_shared.proofs.tree.Tree.covered_now.Goals as goal
+
+pub tell-requires-clause-opened : goal.tell-requires-clause-opened
+tell-requires-clause-opened c =
+    let opens = c.open-stamp.ensures.opens in
+    let ask = c.covered-yes.ensures in (
+      c.args.pass.now,
+      asked c.args.self.now.rows c.open-stamp.result _ c.args.pass.now c.open-stamp.new.pass c.covered-yes.new.pass opens (ask.tree c.open-stamp.result opens.opened.tree) ask.same ask.reads.2,
+    )
+
+pub returns-clause-answers : goal.returns-clause-answers
+returns-clause-answers c =
+    let opens = c.open-stamp.ensures.opens in
+    let ask = c.covered-yes.ensures in
+    subst (λ x. Answers nondominated c.args.self.now.rows.passes (view_of c.args.pass.now) (Covered c.args.value) x c.open-stamp.result (view_of c.tell.new.pass)) c.reply.ensures
+    (c.tell.ensures.answers c.args.pass.now
+    (asked c.args.self.now.rows c.open-stamp.result _ c.args.pass.now c.open-stamp.new.pass c.covered-yes.new.pass opens (ask.tree c.open-stamp.result opens.opened.tree) ask.same ask.reads.2))

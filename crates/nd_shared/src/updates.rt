@@ -1,0 +1,88 @@
+//! Updates of the shared tree.
+ghost use Rattle.std.specs.Prelude.{◌≡◌, ℕ, ◌<◌, ◌≤◌, ◌^◌, ◌-◌, true, Err, IfOk, OnErr, length};
+ghost use Rattle.era_core.specs.declared.sizes.TheConstants.{LAST_VERSION};
+ghost use Rattle.era_rows.specs.Passes.{known_of, work_of, IsPassOf};
+ghost use Rattle.pls_archive.specs.declared.call.Call.TheVariants.{Update};
+ghost use Rattle.pls_archive.specs.Archives.{reply_of};
+ghost use Rattle.pls_archive.specs.History.{submissions};
+ghost use Rattle.pls_archive.specs.Reply.{nondominated};
+ghost use Rattle.pls_archive.specs.Rule.{is_accepting};
+ghost use Rattle.pls_archive.specs.SharedCalls.{Answers, IsRefused};
+ghost use Rattle.nd_update.specs.Built.{IsPublishable};
+ghost use Rattle.nd_shared.specs.Views.{IsReady, Opens, BuildsAt, view_of};
+ghost use Rattle.nd_shared.specs.declared.refusal.TryRefusal.TheVariants.{Full, Spent, Beaten};
+
+use crate::refusal::TryRefusal;
+use crate::tree::{Tree, TreePass};
+use era_rows::PublishRefusal;
+use nd_rows::Adds;
+use nd_update::{BuildRefusal, Built, build, give_all_back};
+use pls_archive::{Call, Point, Reply, Taken};
+
+impl Tree {
+    // Publishes the tree that was built, with the entry of its point, and leaves the version.
+    fn publish(
+        &self,
+        pass: &mut TreePass,
+        stamp: u64,
+        point: &Point,
+        built: Built,
+    ) -> Result<(Taken, u64), TryRefusal>
+        requires built { (p : _) × BuildsAt self.now.rows stamp point.now built p pass.old }
+        requires low { stamp ≤ LAST_VERSION }
+        ensures ready { IsReady self.now.rows pass.new }
+        ensures answers { IfOk result (λ a. (p : _) → BuildsAt self.now.rows stamp point.now built p pass.old
+            → Answers nondominated self.now.rows.passes (view_of p) (Update point.now) (reply_of a.0) a.1 (view_of pass.new)) }
+        ensures refused { OnErr result ((p : _) → BuildsAt self.now.rows stamp point.now built p pass.old → IsRefused nondominated self.now.rows.passes (view_of p) (view_of pass.new)) }
+    {
+        let adds = Adds {
+            caller: self.rows.number(pass),
+            stamp: stamp + 1,
+            point: *point,
+            removed: built.removed,
+        };
+        match self.rows.publish(pass, built.root, &adds) {
+            Ok(version) => {
+                self.leave(pass);
+                let removed = built.removed;
+                Ok((Taken::Added { removed }, version))
+            }
+            Err(refusal) => {
+                give_all_back(&self.rows, pass);
+                self.leave(pass);
+                match refusal {
+                    PublishRefusal::Beaten(version) => Err(TryRefusal::Beaten(version)),
+                    PublishRefusal::Spent => Err(TryRefusal::Spent),
+                }
+            }
+        }
+    }
+
+    /// Submits a point, unless another update is published meanwhile.
+    ///
+    /// # Errors
+    ///
+    /// `Full` where no row was free, `Spent` where the pinned version is the last of all, and `Beaten` where another version was
+    /// published meanwhile. A point that a member covers is answered with `Refused`.
+    pub fn try_update(&self, pass: &mut TreePass, point: Point) -> Result<(Taken, u64), TryRefusal>
+        requires ready { IsReady self.now.rows pass.old }
+        requires parts { length point.value ≡ self.now.rows.shape }
+        ensures ready { IsReady self.now.rows pass.new }
+        ensures answers { IfOk result (λ a. Answers nondominated self.now.rows.passes (view_of pass.old) (Update point) (reply_of a.0) a.1 (view_of pass.new)) }
+        ensures refused { OnErr result (IsRefused nondominated self.now.rows.passes (view_of pass.old) (view_of pass.new)) }
+    {
+        let point = &point;
+        let stamp = self.open(pass);
+        match build(&self.rows, pass, *point) {
+            Ok(built) => self.publish(pass, stamp, point, built),
+            Err(BuildRefusal::Covered) => {
+                self.tell(pass, stamp, &Call::Update(*point), &Reply::Refused);
+                Ok((Taken::Refused, stamp))
+            }
+            Err(BuildRefusal::Full) => {
+                self.leave(pass);
+                Err(TryRefusal::Full)
+            }
+        }
+    }
+}
