@@ -14,7 +14,7 @@ AreDifferent xs = (r : ℕ) → times r xs ≤ 1
 abbrev pub AreBelow : ℕ → List ℕ → Type 0
 AreBelow n xs = (r : ℕ) → In r xs → r < n
 
-length_without : (n : ℕ) (xs : List ℕ) → length (without (n ∷ []) xs) + times n xs ≡ length xs
+pub length_without : (n : ℕ) (xs : List ℕ) → length (without (n ∷ []) xs) + times n xs ≡ length xs
 length_without n [] = refl
 length_without n (x ∷ xs) =
     let rest = length_without n xs in

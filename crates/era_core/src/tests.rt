@@ -48,8 +48,18 @@ fn free(pass: u32, row: u32) -> Event {
     Event::Free { pass, row }
 }
 
-fn refusal(rt: &HostRuntime, events: &[Event]) -> Option<PlayRefusal> {
-    Core::play(rt.alloc(), 4, 2, events).err()
+/// The root, the owners and the announcements.
+type Words = ((u64, u32), [u32; 4], [u64; 2]);
+
+/// What a schedule leaves.
+fn played(rt: &HostRuntime, events: &[Event]) -> Result<Words, PlayRefusal> {
+    let core = Core::play(rt.alloc(), 4, 2, events)?;
+    let owners = [core.owner(0), core.owner(1), core.owner(2), core.owner(3)];
+    Ok((
+        core.root(),
+        owners,
+        [core.announcement(0), core.announcement(1)],
+    ))
 }
 
 #[test]
@@ -121,7 +131,7 @@ fn a_row_that_is_still_read_is_not_freed(rt: HostRuntime) {
         look(0, 1),
         free(0, 0),
     ];
-    assert_eq!(rt; refusal(&rt, &events), Some(Illegal(19)));
+    assert_eq!(rt; played(&rt, &events), Err(Illegal(19)));
 }
 
 #[test]
@@ -140,99 +150,92 @@ fn a_fresh_row_is_given_back(rt: HostRuntime) {
     assert_eq!(rt; core.announcement(0), 1);
 }
 
-// Each line is a schedule, and the first event of it that is not allowed.
 #[test]
-fn events_out_of_turn_are_refused(rt: HostRuntime) {
-    assert_eq!(rt; refusal(&rt, &[pin(0)]), Some(Illegal(0)));
-    assert_eq!(rt;
-        refusal(&rt, &[note(0), announce(0), announce(0)]),
-        Some(Illegal(2))
-    );
-    assert_eq!(rt;
-        refusal(&rt, &[note(0), announce(0), unpin(0)]),
-        Some(Illegal(2))
-    );
-    assert_eq!(rt;
-        refusal(&rt, &[take(0, 1), write(1, 1, 0, 0)]),
-        Some(Illegal(1))
-    );
-    assert_eq!(rt;
-        refusal(&rt, &[note(0), announce(0), pin(0), publish(0, 0)]),
-        Some(Illegal(3))
-    );
-    assert_eq!(rt; refusal(&rt, &[look(0, 1)]), Some(Illegal(0)));
-    assert_eq!(rt;
-        refusal(&rt, &[note(0), announce(0), pin(0), read(0, 1, 0)]),
-        Some(Illegal(3))
-    );
-    assert_eq!(rt; refusal(&rt, &[take(0, 4)]), Some(Illegal(0)));
-}
-
-// The same, for schedules that publish.
-#[test]
-fn trees_and_batches_out_of_turn_are_refused(rt: HostRuntime) {
-    let row_twice = [
-        note(0),
-        announce(0),
-        pin(0),
-        take(0, 1),
-        write(0, 1, 0, 4),
-        write(0, 1, 1, 1),
-        publish(0, 1),
+fn answers_hostile_schedules(rt: HostRuntime) {
+    let schedules: [(&[Event], Result<Words, PlayRefusal>); 12] = [
+        (&[pin(0)], Err(Illegal(0))),
+        (&[note(0), announce(0), announce(0)], Err(Illegal(2))),
+        (&[note(0), announce(0), unpin(0)], Err(Illegal(2))),
+        (&[take(0, 1), write(1, 1, 0, 0)], Err(Illegal(1))),
+        // row 1 links itself
+        (
+            &[
+                note(0),
+                announce(0),
+                pin(0),
+                take(0, 1),
+                write(0, 1, 0, 4),
+                write(0, 1, 1, 1),
+                publish(0, 1),
+            ],
+            Err(Illegal(6)),
+        ),
+        // row 0 is not fresh
+        (
+            &[note(0), announce(0), pin(0), publish(0, 0)],
+            Err(Illegal(3)),
+        ),
+        (&[look(0, 1)], Err(Illegal(0))),
+        // the scan is not whole
+        (
+            &[
+                note(1),
+                note(0),
+                announce(0),
+                pin(0),
+                take(0, 1),
+                write(0, 1, 0, 0),
+                publish(0, 1),
+                unpin(0),
+                look(0, 0),
+                free(0, 0),
+            ],
+            Err(Illegal(9)),
+        ),
+        // the version of the batch is announced
+        (
+            &[
+                note(1),
+                note(0),
+                announce(0),
+                pin(0),
+                take(0, 1),
+                write(0, 1, 0, 0),
+                publish(0, 1),
+                unpin(0),
+                announce(1),
+                look(0, 0),
+                look(0, 1),
+                free(0, 0),
+            ],
+            Err(Illegal(11)),
+        ),
+        // the first of two publications wins
+        (
+            &[
+                note(0),
+                note(1),
+                announce(0),
+                announce(1),
+                pin(0),
+                pin(1),
+                take(0, 1),
+                write(0, 1, 0, 0),
+                take(1, 2),
+                write(1, 2, 0, 0),
+                publish(0, 1),
+                publish(1, 2),
+                free(1, 2),
+            ],
+            Ok(((1, 1), [1, 1, 0, 0], [1, 1])),
+        ),
+        (
+            &[note(0), announce(0), pin(0), read(0, 1, 0)],
+            Err(Illegal(3)),
+        ),
+        (&[take(0, 4)], Err(Illegal(0))),
     ];
-    assert_eq!(rt; refusal(&rt, &row_twice), Some(Illegal(6)));
-    let half_a_scan = [
-        note(1),
-        note(0),
-        announce(0),
-        pin(0),
-        take(0, 1),
-        write(0, 1, 0, 0),
-        publish(0, 1),
-        unpin(0),
-        look(0, 0),
-        free(0, 0),
-    ];
-    assert_eq!(rt; refusal(&rt, &half_a_scan), Some(Illegal(9)));
-    let reserved = [
-        note(1),
-        note(0),
-        announce(0),
-        pin(0),
-        take(0, 1),
-        write(0, 1, 0, 0),
-        publish(0, 1),
-        unpin(0),
-        announce(1),
-        look(0, 0),
-        look(0, 1),
-        free(0, 0),
-    ];
-    assert_eq!(rt; refusal(&rt, &reserved), Some(Illegal(11)));
-}
-
-#[test]
-fn the_first_of_two_publications_wins(rt: HostRuntime) {
-    let events = [
-        note(0),
-        note(1),
-        announce(0),
-        announce(1),
-        pin(0),
-        pin(1),
-        take(0, 1),
-        write(0, 1, 0, 0),
-        take(1, 2),
-        write(1, 2, 0, 0),
-        publish(0, 1),
-        publish(1, 2),
-        free(1, 2),
-    ];
-    let core = Core::play(rt.alloc(), 4, 2, &events).expect(&rt, "each event is allowed");
-    assert_eq!(rt; core.root(), (1, 1));
-    assert_eq!(rt;
-        [core.owner(0), core.owner(1), core.owner(2), core.owner(3)],
-        [1, 1, 0, 0]
-    );
-    assert_eq!(rt; [core.announcement(0), core.announcement(1)], [1, 1]);
+    for (events, answer) in schedules {
+        assert_eq!(rt; played(&rt, events), answer, "{events:?}");
+    }
 }

@@ -1,7 +1,7 @@
 //! Joining two passes.
 ghost use Rattle.std.specs.Prelude.{◌≡◌, Some, None};
 ghost use Rattle.era_rows.specs.Known.{Shortage};
-ghost use Rattle.era_rows.specs.Passes.{known_of, IsSamePass};
+ghost use Rattle.era_rows.specs.Passes.{known_of};
 ghost use Rattle.era_one_row.specs.Ready.{IsIdle};
 
 use crate::law::OneRow;
@@ -13,7 +13,7 @@ pub fn join(rows: &Rows<OneRow>, pass: &mut Pass<OneRow>, other: Pass<OneRow>)
     requires pass { IsIdle rows.now pass.old }
     requires other { IsIdle rows.now other }
     ensures idle { IsIdle rows.now pass.new }
-    ensures same { IsSamePass pass.old pass.new }
+    ensures number { pass.new.number ≡ pass.old.number }
     ensures keeps { (s : Shortage) → (known_of pass.old).full ≡ Some s → (known_of pass.new).full ≡ Some s }
     ensures takes_over { (known_of pass.old).full ≡ None → (known_of pass.new).full ≡ (known_of other).full }
 {

@@ -208,12 +208,12 @@ fn lose_to(rows: &Rows<OneRow>, a: &mut Pass<OneRow>, b: &mut Pass<OneRow>) -> O
 }
 
 // A pass remembers a version, publishes, loses a publication to another, which then remembers a later version, and takes that
-// one over: the first version, and what it remembers after each.
+// one over: the first version, what it remembers after each publication, and whether it remembers any after it took over.
 fn remember_and_join(
     rows: &Rows<OneRow>,
     mut a: Pass<OneRow>,
     mut b: Pass<OneRow>,
-) -> Option<[u64; 4]>
+) -> Option<([u64; 3], bool)>
     requires { IsIdle rows.now a × IsIdle rows.now b }
 {
     let version = remember_version(rows, &mut a);
@@ -225,7 +225,10 @@ fn remember_and_join(
     let lost = remembered_version(&a, 0)?;
     remember_version(rows, &mut b);
     join(rows, &mut a, b);
-    Some([version, published, lost, remembered_version(&a, 0)?])
+    Some((
+        [version, published, lost],
+        remembered_version(&a, 0).is_some(),
+    ))
 }
 
 #[test]
@@ -237,8 +240,8 @@ fn remembers_a_version(rt: HostRuntime) -> Result<(), AllocError> {
     );
     replace(&rows, &mut a);
     assert!(&rt;
-        remember_and_join(&rows, a, b) == Some([1, 1, 1, 1]),
-        "version 1 is remembered throughout"
+        remember_and_join(&rows, a, b) == Some(([1, 1, 1], false)),
+        "version 1 is remembered until the pass takes over another"
     );
     Ok(())
 }

@@ -62,7 +62,7 @@ module _ (passes rows : ℕ) where
       ∙ ap (λ b. b && eqb w 0) (lt-ltb (owner_at passes rows r) (owner_at passes rows rows) (omega arith))
 
   -- which row a cell is of
-  read-own : (r p w : ℕ) → p < WIDTH → is_read passes rows r (cell_at passes rows r p, w) ≡ true
+  pub read-own : (r p w : ℕ) → p < WIDTH → is_read passes rows r (cell_at passes rows r p, w) ≡ true
   read-own r p w low =
       ap (λ b. b && ltb (cell_at passes rows r p) (cell_at passes rows (r + 1) 0)) (le-leb (cell_at passes rows r 0) (cell_at passes rows r p) (omega arith))
       ∙ lt-ltb (cell_at passes rows r p) (cell_at passes rows (r + 1) 0) (omega arith)

@@ -1,7 +1,7 @@
 -- A pass that takes over what another knows and has keeps the rule.
-use Rattle.std.proofs.Common.{◌≡◌, ◌≢◌, ℕ, zero, suc, ◌+◌, ◌-◌, ◌≤◌, ◌⊎◌, ⊎_elim, inl, inr, Bool, Some, None, List, [], ◌∷◌, ◌++◌, length, take, drop, map, set, refl, sym, ap, subst, ◌∙◌, arith, length-append, length-drop, append-nil}
-use Rattle.std.proofs.lemmas.Bool.{cases_lt}
-use Rattle.std.proofs.lemmas.List.{map-append, take-append-drop, drop_all}
+use Rattle.std.proofs.Common.{◌≡◌, ◌≢◌, ℕ, zero, suc, ◌+◌, ◌-◌, ◌≤◌, ◌⊎◌, ⊎_elim, inl, inr, Bool, Some, None, List, [], ◌∷◌, ◌++◌, length, map, set, cond, ◌<◌, le-leb, refl, sym, ap, subst, ◌∙◌, arith}
+use Rattle.std.proofs.lemmas.Bool.{cases_lt, lt-leb}
+use Rattle.std.proofs.lemmas.List.{map-append}
 use Rattle.std.proofs.lemmas.Option.{same_Some, none-some}
 use Rattle.atomic_table.specs.Table.{State, Joins}
 use Rattle.atomic_table.proofs.Lists.{at_longer}
@@ -18,7 +18,6 @@ use Rattle.era_rows.specs.declared.views.Knows.{Knows}
 use Rattle.era_rows.specs.declared.sizes.Sizes.{Sizes}
 use Rattle.era_rows.proofs.Seats.{core_at, core_set}
 use Rattle.era_rows.proofs.Learning.{more_seen}
-use Rattle.era_rows.proofs.Logs.{take_prefix, take_within}
 use Rattle.era_rows.proofs.JoinedViews.{joins}
 use mathlib.Core.Option.{some}
 use lib.ListN.{get_elem?}
@@ -30,18 +29,26 @@ module _ {A : Type 0} where
   at_either (x ∷ xs) ys zero a here = inl here
   at_either (x ∷ xs) ys (suc i) a here = at_either xs ys i a here
 
+  longer_more : (xs ys : List A) → length xs < length ys → longer xs ys ≡ ys
+  longer_more xs ys more = ap (λ s. cond s xs ys) (lt-leb (length ys) (length xs) more)
+
+  longer_less : (xs ys : List A) → length ys ≤ length xs → longer xs ys ≡ xs
+  longer_less xs ys less = ap (λ s. cond s xs ys) (le-leb (length ys) (length xs) less)
+
   -- the longer one of two lists that begin a third one begins it
   longer_begins : (xs ys all : List A) → IsPrefix xs all → IsPrefix ys all → IsPrefix (longer xs ys) all
   longer_begins xs ys all first second =
       ⊎_elim
-      (λ more.
-      let begun : take (length xs) ys ≡ xs = sym (take_within ys all (length xs) second (omega arith)) ∙ take_prefix xs all first in
-      subst (λ zs. IsPrefix zs all) (sym (ap (λ zs. zs ++ drop (length xs) ys) (sym begun) ∙ take-append-drop (length xs) ys)) second)
-      (λ less. subst (λ zs. IsPrefix zs all) (sym (ap (λ zs. xs ++ zs) (drop_all (length xs) ys less) ∙ append-nil xs)) first)
+      (λ more. subst (λ zs. IsPrefix zs all) (sym (longer_more xs ys more)) second)
+      (λ less. subst (λ zs. IsPrefix zs all) (sym (longer_less xs ys less)) first)
       (cases_lt (length xs) (length ys))
 
   longer-length : (xs ys : List A) → length (longer xs ys) ≡ length xs + (length ys - length xs)
-  longer-length xs ys = length-append xs (drop (length xs) ys) ∙ ap (λ n. length xs + n) (length-drop (length xs) ys)
+  longer-length xs ys =
+      ⊎_elim
+      (λ more. ap length (longer_more xs ys more) ∙ (let long : length ys ≡ length xs + (length ys - length xs) = omega arith in long))
+      (λ less. ap length (longer_less xs ys less) ∙ (let long : length xs ≡ length xs + (length ys - length xs) = omega arith in long))
+      (cases_lt (length xs) (length ys))
 
   pub longer_left : (xs ys : List A) → length xs ≤ length (longer xs ys)
   longer_left xs ys = let long = longer-length xs ys in omega arith

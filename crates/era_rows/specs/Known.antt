@@ -1,5 +1,5 @@
 -- What a running pass knows beside the entries that it has seen, and what each step adds to it.
-use Rattle.std.specs.Prelude.{◌/◌, ◌%◌, ℕ, ◌+◌, ◌&&◌, not, ◌==◌, Option, Some, None, option_and_then, List, [], ◌∷◌, ◌++◌, filter, drop, length, slice_get, unwrap_or}
+use Rattle.std.specs.Prelude.{◌/◌, ◌%◌, ℕ, ◌+◌, ◌&&◌, not, ◌==◌, nat_le, if◌then◌else◌, Option, Some, None, option_and_then, List, [], ◌∷◌, ◌++◌, filter, drop, length, slice_get, unwrap_or}
 use Rattle.era_core.specs.declared.sizes.TheConstants.{ROOT_ROWS}
 use Rattle.era_core.specs.Lists.{is_in, tree}
 use Rattle.era_core.specs.Words.{root_word, reservation_at, owner_at}
@@ -166,7 +166,7 @@ recording full k = record k { full = full k }
 
 -- the longer one of two lists that begin alike
 abbrev pub longer : {A : Type 0} → List A → List A → List A
-longer xs ys = xs ++ drop (length xs) ys
+longer xs ys = if nat_le (length ys) (length xs) then xs else ys
 
 -- the first, where it is there
 abbrev pub either_full : Option Shortage → Option Shortage → Option Shortage

@@ -46,6 +46,20 @@ impl<L: Law> Rows<L> {
         pass.retired.len() as u32
     }
 
+    /// How many rows there are.
+    pub fn rows(&self) -> u32
+        ensures { result ≡ self.now.rows }
+    {
+        self.rows
+    }
+
+    /// How many passes the start made.
+    pub fn passes(&self) -> u32
+        ensures { result ≡ self.now.passes }
+    {
+        self.passes
+    }
+
     pub fn shape(&self) -> u64
         ensures { result ≡ self.now.shape }
     {

@@ -1,4 +1,4 @@
-use Rattle.std.proofs.Common.{◌≡◌, Some, drop, length, refl, sym, inl, ap, ◌∙◌, arith}
+use Rattle.std.proofs.Common.{◌≡◌, Some, refl, inl, ap, ◌∙◌, arith}
 use Rattle.atomic_table.specs.Table.{Me}
 use Rattle.era_rows.specs.Known.{joining_known, looking_at}
 use Rattle.era_rows.specs.Ring.{pairs_in}
@@ -8,7 +8,7 @@ use Rattle.era_rows.proofs.Looking.{looks_at}
 use Rattle.era_rows.proofs.Orders.{pairs_long}
 use Rattle.era_rows.proofs.Tied.{tied_as, room_as, tied_same}
 use Rattle.era_rows.proofs.Tidying.{joined_room, joined_inside, tied_joined, looked_joined}
-use Rattle.era_rows.proofs.Remembering.{recalls_more}
+use Rattle.era_rows.proofs.Remembering.{recalls_none}
 use Rattle.era_rows.proofs.rows.Rows.join.Goals as goal
 
 pub join_seat-requires : goal.join_seat-requires
@@ -85,7 +85,7 @@ invariant_of-pass g c =
           (tied_same (tied_joined pass.tied other.tied told.1 c.loosen.new.loose.items (pairs_in c.merge.new.retired.items) c.requires.unpinned.0 (c.loosen.ensures.len ∙ pass.tied.counted) c.loosen.ensures.loose
           c.merge.ensures.in_order c.merge.ensures.all)
           now.core.scanned now.core.least now.core.last now.looks now.full);
-      recalls = recalls_more g.L.Law.lasts (ap (λ (x : Knows g.row.L-Entry.Denot). x.view.shape) told.0) (drop (length pass.seat.me.0.seen) other.seat.me.0.seen, sym (ap (λ (x : Knows g.row.L-Entry.Denot). x.seen) told.0)) pass.recalls;
+      recalls = recalls_none;
       bare = told.2 ∙ pass.bare;
       roomy = room_as (ap (λ (k : Knows g.row.L-Entry.Denot). k.view.rows) told.0) c.append.ensures.capacity refl refl c.merge.ensures.capacity refl pass.roomy;
     }
