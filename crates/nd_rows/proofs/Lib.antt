@@ -1,4 +1,5 @@
 pub mod Looks
+pub mod Remembered
 pub mod Sides
 pub mod Corners
 pub mod Pending

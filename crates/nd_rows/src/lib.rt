@@ -12,6 +12,7 @@ mod points;
 mod question;
 mod questions;
 mod reads;
+mod remembers;
 #[cfg(test)]
 mod tests;
 mod walk;
@@ -21,3 +22,4 @@ pub use layout::{FIRST_LINK, IDEAL, INNER, LEAF, NADIR, PARTS, POINT, SOL_LEN, S
 pub use points::gather;
 pub use questions::{covered, member};
 pub use reads::{part_word, sided, word};
+pub use remembers::{recalls, remember};
