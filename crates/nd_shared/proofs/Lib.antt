@@ -1,6 +1,13 @@
+pub mod Recorded
 pub mod Consistent
 pub mod Opening
 pub mod Telling
+pub mod Refusals
 pub mod Publications
 pub mod Built
+pub mod Joining
+pub mod Trying
 pub mod Starting
+pub mod Waiting
+pub mod Room
+pub mod Keeping

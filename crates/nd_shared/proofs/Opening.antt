@@ -1,8 +1,6 @@
 -- A pass that has pinned the current version has observed all that made it.
-use Rattle.std.proofs.Common.{◌≡◌, ℕ, ◌/◌, ◌<◌, List, length, refl, sym, ap, subst, ◌∙◌}
+use Rattle.std.proofs.Common.{◌≡◌, ℕ, ◌<◌, List, length, sym, ap, subst, ◌∙◌}
 use Rattle.era_core.specs.declared.sizes.TheConstants.{ROOT_ROWS}
-use Rattle.era_core.specs.Words.{root_word}
-use Rattle.era_core.specs.Versions.{Copy}
 use Rattle.era_core.proofs.Publishes.{root_word-version}
 use Rattle.era_rows.specs.Known.{Known}
 use Rattle.era_rows.specs.Passes.{known_of, knows_of, seen_of, lists_of, HasSame}
@@ -11,15 +9,13 @@ use Rattle.era_rows.specs.declared.pass.Pass.{Pass}
 use Rattle.era_rows.specs.declared.rows.Rows.{Rows}
 use Rattle.era_rows.specs.declared.law.Law.{Ghosts}
 use Rattle.pls_archive.specs.declared.call.Entry.{Entry}
-use Rattle.pls_archive.specs.History.{accepts}
 use Rattle.pls_archive.specs.Reply.{nondominated}
 use Rattle.pls_archive.specs.View.{View, IsConsistent}
-use Rattle.nd_rows.specs.Entries.{IsRight}
-use Rattle.nd_rows.specs.Layout.{IsLawful, StandsFor}
 use Rattle.nd_rows.specs.Reads.{HasPinnedTree, ReadsIn}
 use Rattle.nd_update.specs.Resting.{IsOpen}
-use Rattle.nd_shared.specs.Views.{AreListed, IsReady, Opens, Pins, view_of, view_with, own_of, others_of}
+use Rattle.nd_shared.specs.Views.{AreListed, IsReady, Opens, Pins, view_with, own_of, others_of}
 use Rattle.nd_shared.proofs.Consistent.{consistent_view}
+use Rattle.nd_shared.proofs.Recorded.{evidence_kept}
 
 -- the view by its parts
 abbrev make : ℕ → List Entry → List (ℕ × List Entry) → View
@@ -39,19 +35,21 @@ module _ {L : Type 0} {G : Ghosts L Entry} (r : Rows L Entry) where
   opens n root p q small ready opened number pinned =
       let learns = pinned.1.learns in
       let lists : lists_of q ≡ lists_of p = learns.same_lists in
-      let listed = still_listed p q number lists ready.listed in record {
+      let listed = still_listed p q number lists ready.resting.listed in record {
         opened = opened;
         listed = listed;
+        short = evidence_kept r p q ready.is_pass opened.tree.is_pass (ap (λ (k : Known). k.full) pinned.1.view_is) ready.resting.short;
         all = learns.seen_all ∙ root_word-version n root small;
         observes_more = record { number = number; observed = learns.seen_more; own = ap own_of lists; others = ap others_of lists };
         consistent = consistent_view r.passes q.number (knows_of q) opened.tree.is_pass.sized.passes_are listed learns.consistent;
       }
 
   -- also after a question
-  pub still_opens : (n : ℕ) (p q s : Pass L Entry G) → Opens r n p q → IsOpen r n s → s.number ≡ q.number → seen_of s ≡ seen_of q → lists_of s ≡ lists_of q → Opens r n p s
-  still_opens n p q s opens opened number seen lists = record {
+  pub still_opens : (n : ℕ) (p q s : Pass L Entry G) → Opens r n p q → IsOpen r n s → s.number ≡ q.number → seen_of s ≡ seen_of q → lists_of s ≡ lists_of q → (known_of s).full ≡ (known_of q).full → Opens r n p s
+  still_opens n p q s opens opened number seen lists full = record {
     opened = opened;
     listed = still_listed q s number lists opens.listed;
+    short = evidence_kept r q s opens.opened.tree.is_pass opened.tree.is_pass full opens.short;
     all = ap length seen ∙ opens.all;
     observes_more = record {
       number = number ∙ opens.observes_more.number;
@@ -70,4 +68,4 @@ module _ {L : Type 0} {G : Ghosts L Entry} (r : Rows L Entry) where
         no_fresh = ap (λ (k : Known). k.core.fresh) reads.now ∙ opens.opened.no_fresh;
         no_marks = same.same_marks ∙ opens.opened.no_marks;
         idle = same.same_pass.same_work ∙ opens.opened.idle;
-      }) same.same_pass.same_number same.same_seen same.same_lists
+      }) same.same_pass.same_number same.same_seen same.same_lists (ap (λ (k : Known). k.full) reads.now)

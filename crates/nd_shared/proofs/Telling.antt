@@ -1,8 +1,9 @@
 -- What a call of the shared tree is to the view of its pass.
-use Rattle.std.proofs.Common.{◌≡◌, ℕ, ◌+◌, Some, true, false, List, [], ◌∷◌, ◌++◌, length, refl, sym, ap, subst, ◌∙◌}
+use Rattle.std.proofs.Common.{◌≡◌, ℕ, ◌+◌, true, false, [], ◌∷◌, ◌++◌, length, refl, sym, ap, subst, ◌∙◌}
 use Rattle.era_rows.specs.Lists.{add_entry}
-use Rattle.era_rows.specs.Passes.{known_of, knows_of, seen_of, lists_of, IsPassOf}
-use Rattle.era_rows.specs.Plays.{IsConsistent as AllConsistent, having_left}
+use Rattle.era_rows.specs.Known.{Known, leaving}
+use Rattle.era_rows.specs.Passes.{known_of, knows_of, seen_of, lists_of, marked_of, work_of, IsPassOf}
+use Rattle.era_rows.specs.Plays.{IsConsistent as AllConsistent}
 use Rattle.era_rows.specs.declared.views.Knows.{Knows}
 use Rattle.era_rows.specs.declared.pass.Pass.{Pass}
 use Rattle.era_rows.specs.declared.rows.Rows.{Rows}
@@ -18,8 +19,9 @@ use Rattle.pls_archive.specs.SharedCalls.{Answers, IsRefused}
 use Rattle.pls_archive.specs.View.{IsConsistent, ObservesMore}
 use Rattle.nd_rows.specs.Entries.{IsRight}
 use Rattle.nd_rows.specs.Layout.{IsLawful, StandsFor}
-use Rattle.nd_shared.specs.Views.{AreListed, Opens, view_of, view_with, own_of, others_of}
-use Rattle.nd_shared.proofs.Consistent.{consistent_view, listed_added, entry_of, answers_told, answers_added, refused}
+use Rattle.nd_shared.specs.Views.{AreListed, HasEvidence, IsReady, view_of, view_with}
+use Rattle.nd_shared.proofs.Consistent.{listed_added, entry_of, answers_told, answers_added, refused}
+use Rattle.nd_shared.proofs.Recorded.{evidence_kept}
 
 -- consistent, as the rows have it, under the law of ND-trees
 abbrev pub IsSound : Knows Entry → Type 0
@@ -69,3 +71,19 @@ module _ {L : Type 0} {G : Ghosts L Entry} (r : Rows L Entry) (p q s : Pass L En
   kept more lists sound =
       subst (λ x. IsRefused nondominated r.passes (view_of p) (view_with x (knows_of s))) (sym same)
       (refused r.passes p.number (knows_of p) (knows_of q) (knows_of s) opened_as (sound_as sound) more lists)
+
+module _ {L : Type 0} {G : Ghosts L Entry} (r : Rows L Entry) where
+  -- a pass that has left its version is ready
+  pub ready_left : (p q : Pass L Entry G) → IsPassOf r p → IsPassOf r q → known_of q ≡ leaving (known_of p) → (known_of p).core.fresh ≡ [] → marked_of q ≡ [] → work_of q ≡ [] → AreListed q.number (lists_of q)
+      → HasEvidence (known_of p) → IsReady r q
+  ready_left p q before after left fresh marks work listed short = record {
+    is_pass = after;
+    resting = record {
+      unpinned = ap (λ (k : Known). k.core.pinned) left;
+      no_fresh = ap (λ (k : Known). k.core.fresh) left ∙ fresh;
+      no_marks = marks;
+      idle = work;
+      listed = listed;
+      short = evidence_kept r p q before after (ap (λ (k : Known). k.full) left) short;
+    };
+  }

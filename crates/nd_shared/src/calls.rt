@@ -1,18 +1,20 @@
 //! The calls of the shared tree, which wait for nobody.
-ghost use Rattle.std.specs.Prelude.{◌≡◌, ℕ, ◌<◌, ◌≤◌, false, Some, IfOk, OnErr, [], length};
+ghost use Rattle.std.specs.Prelude.{◌≡◌, ℕ, ◌+◌, ◌<◌, ◌≤◌, false, Some, IfOk, OnErr, [], length};
 ghost use Rattle.era_core.specs.declared.sizes.TheConstants.{ROOT_ROWS, LAST_VERSION};
-ghost use Rattle.era_rows.specs.Passes.{known_of, knows_of, seen_of, lists_of, work_of, IsPassOf};
-ghost use Rattle.pls_archive.specs.declared.call.Call.TheVariants.{Update, Covered, Member, Snapshot};
+ghost use Rattle.era_rows.specs.Known.{leaving};
+ghost use Rattle.era_rows.specs.Passes.{known_of, knows_of, seen_of, lists_of, marked_of, work_of, IsPassOf};
+ghost use Rattle.pls_archive.specs.declared.call.Call.TheVariants.{Covered, Member, Snapshot};
 ghost use Rattle.pls_archive.specs.declared.call.Reply.TheVariants.{Points};
-ghost use Rattle.pls_archive.specs.Archives.{reply_of, yes_or_no};
+ghost use Rattle.pls_archive.specs.Archives.{yes_or_no};
 ghost use Rattle.pls_archive.specs.History.{submissions};
 ghost use Rattle.pls_archive.specs.Reply.{nondominated};
 ghost use Rattle.pls_archive.specs.Rule.{is_accepting};
 ghost use Rattle.pls_archive.specs.View.{IsConsistent};
 ghost use Rattle.pls_archive.specs.SharedCalls.{Answers, IsRefused};
 ghost use Rattle.nd_rows.specs.Entries.{HasParts};
+ghost use Rattle.nd_update.specs.Counted.{IsCounted};
 ghost use Rattle.nd_update.specs.Resting.{IsOpen};
-ghost use Rattle.nd_shared.specs.Views.{AreListed, IsReady, Opens, Pins, view_of};
+ghost use Rattle.nd_shared.specs.Views.{AreListed, HasEvidence, IsReady, Opens, Pins, view_of};
 
 use crate::told::Told;
 use crate::tree::{Tree, TreePass};
@@ -58,6 +60,9 @@ impl Tree {
         requires ready { IsReady self.now.rows pass.old }
         ensures opens { Opens self.now.rows result pass.old pass.new }
         ensures low { result ≤ LAST_VERSION }
+        ensures counted { IsCounted (known_of pass.new) (marked_of pass.new) }
+        ensures copies { length (known_of pass.new).copies ≡ result + 1 }
+        ensures later { length (known_of pass.old).looks ≤ (known_of pass.new).since }
         ensures full { (known_of pass.new).full ≡ (known_of pass.old).full }
     {
         self.pin(pass).0
@@ -89,12 +94,13 @@ impl Tree {
         requires no_fresh { (known_of pass.old).core.fresh ≡ [] }
         requires idle { work_of pass.old ≡ [] }
         requires listed { AreListed pass.old.number (lists_of pass.old) }
+        requires short { HasEvidence (known_of pass.old) }
         ensures ready { IsReady self.now.rows pass.new }
+        ensures left { known_of pass.new ≡ leaving (known_of pass.old) }
         ensures number { pass.new.number ≡ pass.old.number }
         ensures seen { seen_of pass.new ≡ seen_of pass.old }
         ensures lists { lists_of pass.new ≡ lists_of pass.old }
         ensures consistent { IsConsistent nondominated self.now.rows.passes (view_of pass.new) }
-        ensures full { (known_of pass.new).full ≡ (known_of pass.old).full }
     {
         self.rows.unpin(pass, &Nothing);
     }

@@ -1,8 +1,12 @@
 //! The nondominated archive as an ND-tree in shared rows, for callers that wait for nobody.
 #![tactic(auto)]
 
+mod builds;
 mod calls;
+mod joins;
+mod keeps;
 mod refusal;
+mod shared_calls;
 #[cfg(test)]
 mod tests;
 mod told;

@@ -19,6 +19,7 @@ pub type TreePass = Pass<NdLaw>;
 #[derive(Drop)]
 pub struct Tree {
     pub(crate) rows: Rows<NdLaw>,
+    ghost few: { rows.shape ≤ 4 },
 }
 
 impl Tree {

@@ -1,22 +1,22 @@
 //! Updates of the shared tree.
-ghost use Rattle.std.specs.Prelude.{◌≡◌, ℕ, ◌<◌, ◌≤◌, ◌^◌, ◌-◌, true, Err, IfOk, OnErr, length};
+ghost use Rattle.std.specs.Prelude.{◌≡◌, ◌≢◌, ℕ, ◌+◌, ◌*◌, ◌<◌, ◌≤◌, true, Err, IfOk, OnOk, OnErr, length};
 ghost use Rattle.era_core.specs.declared.sizes.TheConstants.{LAST_VERSION};
-ghost use Rattle.era_rows.specs.Passes.{known_of, work_of, IsPassOf};
+ghost use Rattle.era_rows.specs.Passes.{known_of, seen_of};
 ghost use Rattle.pls_archive.specs.declared.call.Call.TheVariants.{Update};
 ghost use Rattle.pls_archive.specs.Archives.{reply_of};
 ghost use Rattle.pls_archive.specs.History.{submissions};
 ghost use Rattle.pls_archive.specs.Reply.{nondominated};
 ghost use Rattle.pls_archive.specs.Rule.{is_accepting};
 ghost use Rattle.pls_archive.specs.SharedCalls.{Answers, IsRefused};
-ghost use Rattle.nd_update.specs.Built.{IsPublishable};
-ghost use Rattle.nd_shared.specs.Views.{IsReady, Opens, BuildsAt, view_of};
+ghost use Rattle.nd_update.specs.Counted.{IsShort};
+ghost use Rattle.nd_shared.specs.Views.{IsReady, BuildsAt, FewWait, view_of};
 ghost use Rattle.nd_shared.specs.declared.refusal.TryRefusal.TheVariants.{Full, Spent, Beaten};
 
 use crate::refusal::TryRefusal;
 use crate::tree::{Tree, TreePass};
 use era_rows::PublishRefusal;
 use nd_rows::Adds;
-use nd_update::{BuildRefusal, Built, build, give_all_back};
+use nd_update::{BuildRefusal, Built, give_all_back};
 use pls_archive::{Call, Point, Reply, Taken};
 
 impl Tree {
@@ -29,11 +29,17 @@ impl Tree {
         built: Built,
     ) -> Result<(Taken, u64), TryRefusal>
         requires built { (p : _) × BuildsAt self.now.rows stamp point.now built p pass.old }
+        requires parts { length point.now.value ≡ self.now.rows.shape }
         requires low { stamp ≤ LAST_VERSION }
         ensures ready { IsReady self.now.rows pass.new }
         ensures answers { IfOk result (λ a. (p : _) → BuildsAt self.now.rows stamp point.now built p pass.old
             → Answers nondominated self.now.rows.passes (view_of p) (Update point.now) (reply_of a.0) a.1 (view_of pass.new)) }
+        ensures low { IfOk result (λ a. a.1 ≤ LAST_VERSION) }
+        ensures waits { OnOk result (FewWait self.now.rows.rows self.now.rows.passes (known_of pass.new)) }
         ensures refused { OnErr result ((p : _) → BuildsAt self.now.rows stamp point.now built p pass.old → IsRefused nondominated self.now.rows.passes (view_of p) (view_of pass.new)) }
+        ensures full { (result ≢ Err Full) × ((known_of pass.new).full ≡ (known_of pass.old).full) }
+        ensures spent { result ≡ Err Spent → (length (seen_of pass.new) ≡ LAST_VERSION) × (is_accepting (Update point.now) (nondominated (submissions (seen_of pass.new)) (Update point.now)) ≡ true) }
+        ensures beaten { (v : ℕ) → result ≡ Err (Beaten v) → v ≡ length (seen_of pass.new) }
     {
         let adds = Adds {
             caller: self.rows.number(pass),
@@ -44,6 +50,7 @@ impl Tree {
         match self.rows.publish(pass, built.root, &adds) {
             Ok(version) => {
                 self.leave(pass);
+                self.keep(pass, version, &point.value);
                 let removed = built.removed;
                 Ok((Taken::Added { removed }, version))
             }
@@ -62,18 +69,27 @@ impl Tree {
     ///
     /// # Errors
     ///
-    /// `Full` where no row was free, `Spent` where the pinned version is the last of all, and `Beaten` where another version was
-    /// published meanwhile. A point that a member covers is answered with `Refused`.
+    /// `Full` only where this call found an owner of each row after it freed what no other pass may read, of which the pass keeps an
+    /// evidence, and where there is one pass alone not while there are 64 rows and eight for each point that was added and for this one;
+    /// `Spent` where the pinned version is the last of all; and `Beaten` where another version was published meanwhile. A
+    /// point that a member covers is answered with `Refused`.
     pub fn try_update(&self, pass: &mut TreePass, point: Point) -> Result<(Taken, u64), TryRefusal>
         requires ready { IsReady self.now.rows pass.old }
         requires parts { length point.value ≡ self.now.rows.shape }
         ensures ready { IsReady self.now.rows pass.new }
         ensures answers { IfOk result (λ a. Answers nondominated self.now.rows.passes (view_of pass.old) (Update point) (reply_of a.0) a.1 (view_of pass.new)) }
+        ensures low { IfOk result (λ a. a.1 ≤ LAST_VERSION) }
+        ensures waits { IfOk result (λ a. is_accepting (Update point) (reply_of a.0) ≡ true → FewWait self.now.rows.rows self.now.rows.passes (known_of pass.new)) }
         ensures refused { OnErr result (IsRefused nondominated self.now.rows.passes (view_of pass.old) (view_of pass.new)) }
+        ensures full { result ≡ Err Full → IsShort (known_of pass.new) × (length (known_of pass.old).looks ≤ (known_of pass.new).since) }
+        ensures room { result ≡ Err Full → self.now.rows.passes ≡ 1 → self.now.rows.rows < 8 * (length (seen_of pass.new) + 1) + 64 }
+        ensures same_full { result ≢ Err Full → (known_of pass.new).full ≡ (known_of pass.old).full }
+        ensures spent { result ≡ Err Spent → (length (seen_of pass.new) ≡ LAST_VERSION) × (is_accepting (Update point) (nondominated (submissions (seen_of pass.new)) (Update point)) ≡ true) }
+        ensures beaten { (v : ℕ) → result ≡ Err (Beaten v) → v ≡ length (seen_of pass.new) }
     {
         let point = &point;
         let stamp = self.open(pass);
-        match build(&self.rows, pass, *point) {
+        match self.try_build(pass, point) {
             Ok(built) => self.publish(pass, stamp, point, built),
             Err(BuildRefusal::Covered) => {
                 self.tell(pass, stamp, &Call::Update(*point), &Reply::Refused);

@@ -1,47 +1,15 @@
 -- A node on the way of a point that a pass puts into its row: its names, and what of the way is marked.
-use Rattle.std.proofs.Common.{◌≡◌, ◌≢◌, ℕ, ◌+◌, ◌<◌, ◌≤◌, ◌⊎◌, inl, inr, ⊎_elim, if◌then◌else◌, eq-eqb, ne_eqb, List, [], ◌∷◌, ◌++◌, length, get_or, refl, sym, ap, subst, ◌∙◌, arith, append-nil, ℤ}
+use Rattle.std.proofs.Common.{◌≡◌, ◌≢◌, ℕ, ◌+◌, inl, ⊎_elim, if◌then◌else◌, eq-eqb, ne_eqb, List, [], ◌∷◌, ◌++◌, length, get_or, refl, sym, ap, subst, ◌∙◌, arith, ℤ}
 use Rattle.std.proofs.lemmas.Bool.{cases_eq}
 use Rattle.era_core.specs.Lists.{times, In}
-use Rattle.era_core.specs.Versions.{Cell, look_up}
-use Rattle.era_core.proofs.ListFacts.{times-append, times-head, times-tail, in_head, in-append_left}
-use Rattle.era_rows.specs.Known.{Known, pinned_copy, known_words}
-use Rattle.era_rows.specs.Passes.{known_of, marked_of, knows_of, IsPassOf, IsSamePass}
-use Rattle.era_rows.specs.declared.pass.Pass.{Pass}
-use Rattle.era_rows.specs.declared.rows.Rows.{Rows}
-use Rattle.era_rows.specs.declared.law.Law.{Ghosts}
-use Rattle.era_rows.specs.declared.views.Knows.{Knows}
-use Rattle.pls_archive.specs.declared.call.Entry.{Entry}
+use Rattle.era_core.proofs.ListFacts.{times-append, in_head, in-append_left}
+use Rattle.era_rows.specs.Known.{Known, pinned_copy}
 use Rattle.pls_vectors.specs.Box.{Box, grown}
 use Rattle.nd_rows.specs.Nodes.{Placed, Nodes, no_nodes, leaf, inner, heads, rows_of}
-use Rattle.nd_update.specs.Building.{Builds, IsBuilding, Does}
 use Rattle.nd_update.specs.Insertion.{place_among, leaf_box, known_row, way}
 use Rattle.nd_update.specs.Naming.{HasName, ArePlacedNamed, AreNamed, name_of, names_with, names_of}
 use Rattle.nd_update.specs.Ways.{touched, IsOwned}
-use Rattle.nd_update.proofs.Building.{builds_none}
 use Rattle.nd_update.proofs.Naming.{known-name}
-use mathlib.Core.Option.{some}
-use lib.ListN.{get_elem?}
-
--- a mark is no more than that
-pub mark_does : {L : Type 0} {G : Ghosts L Entry} (r : Rows L Entry) (p q : Pass L Entry G) (row : ℕ) → IsBuilding r p → IsPassOf r q → IsSamePass p q → knows_of q ≡ knows_of p → marked_of q ≡ marked_of p ++ row ∷ [] → Does r [] (row ∷ []) [] p q
-mark_does r p q row building is_pass same knows marked =
-    let now : known_of q ≡ known_of p = ap (λ (k : Knows Entry). k.view) knows in record {
-      building = record {
-        is_pass = is_pass;
-        once = subst (λ (k : Known). (x : ℕ) → times x k.core.fresh ≤ 1) (sym now) building.once;
-        inside = subst (λ (k : Known). (x : ℕ) → In x k.core.fresh → x < r.rows) (sym now) building.inside;
-        unread = subst (λ (k : Known). (x : ℕ) → In x k.core.fresh → times x (pinned_copy k).rows ≡ 0) (sym now) building.unread;
-        written_fresh = subst (λ (k : Known). (i : ℕ) (c : Cell) → get_elem? k.written i ≡ some c → In c.row k.core.fresh) (sym now) building.written_fresh;
-      };
-      same_number = same.same_number;
-      same_seen = ap (λ (k : Knows Entry). k.seen) knows;
-      same_lists = ap (λ (k : Knows Entry). k.lists) knows;
-      same_memory = same.same_memory;
-      builds = subst (λ (k : Known). Builds (known_of p) k) (sym now) (builds_none (known_of p));
-      fresh = ap (λ (k : Known). k.core.fresh) now ∙ sym (append-nil (known_of p).core.fresh);
-      marks = marked;
-      elsewhere = λ x k none. ap (λ (l : Known). look_up (known_words l) x k) now;
-    }
 
 module _ (new : ℕ) (v : List ℤ) where
   -- the rows of the way below the first of the nodes

@@ -5,23 +5,27 @@ use Rattle.std.proofs.lemmas.Bool.{and_left, and_right, and_parts, eqb-true}
 use Rattle.era_core.specs.declared.sizes.TheConstants.{WIDTH}
 use Rattle.era_core.specs.Lists.{times, In}
 use Rattle.era_core.specs.Words.{cell_at}
+use Rattle.era_core.specs.Views.{rows_in}
 use Rattle.era_core.specs.Versions.{Cell, Copy, look_up}
 use Rattle.era_core.proofs.ListFacts.{times-append, times-head, in-append_left, in-append_right}
 use Rattle.era_rows.specs.Known.{Known, pinned_copy, known_words, forget, writing, reading_word}
-use Rattle.era_rows.specs.Passes.{known_of, marked_of, IsPassOf, HasSame, IsReadable}
+use Rattle.era_rows.specs.Passes.{knows_of, known_of, marked_of, IsPassOf, IsSamePass, HasSame, IsReadable}
 use Rattle.era_rows.specs.declared.pass.Pass.{Pass}
 use Rattle.era_rows.specs.declared.rows.Rows.{Rows}
 use Rattle.era_rows.specs.declared.law.Law.{Ghosts}
+use Rattle.era_rows.specs.declared.views.Knows.{Knows}
+use Rattle.era_rows.proofs.Holding.{fresh_inside}
 use Rattle.era_rows.proofs.Reaching.{look_up_past}
-use Rattle.era_rows.proofs.Seats.{at_filter}
 use Rattle.era_one_row.proofs.GoingOn.{begins_twice}
 use Rattle.pls_archive.specs.declared.call.Entry.{Entry}
 use Rattle.pls_vectors.specs.Word.{to_word}
 use Rattle.nd_rows.specs.Layout.{HasWords, HasValue}
 use Rattle.nd_rows.specs.Reads.{LooksIn}
 use Rattle.nd_rows.proofs.Looks.{looks_word}
+use Rattle.nd_update.specs.Counted.{IsCounted}
+use Rattle.nd_update.proofs.Counting.{counted_reads, counted_write, counted_marked}
 use Rattle.nd_update.specs.Building.{Elsewhere, Outside, Builds, IsBuilding, Does}
-use mathlib.Core.Option.{some, some-injective}
+use mathlib.Core.Option.{some}
 use lib.ListN.{get_elem?}
 
 -- ---- words
@@ -160,6 +164,7 @@ module _ {L : Type 0} {G : Ghosts L Entry} (r : Rows L Entry) where
     fresh = sym (append-nil (known_of p).core.fresh);
     marks = sym (append-nil (marked_of p));
     elsewhere = elsewhere_none (known_words (known_of p));
+    full = refl;
   }
 
   -- one thing was done, and then another
@@ -174,6 +179,7 @@ module _ {L : Type 0} {G : Ghosts L Entry} (r : Rows L Entry) where
     fresh = two.fresh ∙ ap (λ xs. xs ++ t') one.fresh ∙ append_assoc (known_of p).core.fresh t t';
     marks = two.marks ∙ ap (λ xs. xs ++ m') one.marks ∙ append_assoc (marked_of p) m m';
     elsewhere = elsewhere_both c c' (known_words (known_of p)) (known_words (known_of q)) (known_words (known_of s)) one.elsewhere two.elsewhere;
+    full = two.full ∙ one.full;
   }
 
   -- the same with other lists
@@ -188,6 +194,7 @@ module _ {L : Type 0} {G : Ghosts L Entry} (r : Rows L Entry) where
     fresh = one.fresh ∙ ap (λ xs. (known_of p).core.fresh ++ xs) taken;
     marks = one.marks ∙ ap (λ xs. marked_of p ++ xs) marked;
     elsewhere = elsewhere_wider c c' (known_words (known_of p)) (known_words (known_of q)) among one.elsewhere;
+    full = one.full;
   }
 
   -- words of these rows at most were changed
@@ -233,35 +240,23 @@ module _ {L : Type 0} {G : Ghosts L Entry} (r : Rows L Entry) where
   still_readable t m c p q one x readable =
       ⊎_elim (λ mine. inl (still_fresh t m c p q one x mine)) (λ old. inr (subst (λ (y : Copy). In x y.rows) (sym (still_pinned t m c p q one)) old)) readable
 
--- what IsBuilding says of what the pass knows
-pub record HoldsFresh (rows : ℕ) (k : Known) : Type 0 where
-  pub once : (x : ℕ) → times x k.core.fresh ≤ 1
-  pub inside : (x : ℕ) → In x k.core.fresh → x < rows
-  pub unread : (x : ℕ) → In x k.core.fresh → times x (pinned_copy k).rows ≡ 0
-  pub written_fresh : (i : ℕ) (c : Cell) → get_elem? k.written i ≡ some c → In c.row k.core.fresh
-
 -- the words of the pinned tree are as they are there
 pinned_known : (k : Known) → ((x : ℕ) → In x k.core.fresh → times x (pinned_copy k).rows ≡ 0) → ((i : ℕ) (c : Cell) → get_elem? k.written i ≡ some c → In c.row k.core.fresh)
     → (x : ℕ) → In x (pinned_copy k).rows → (p : ℕ) → look_up (known_words k) x p ≡ look_up (pinned_copy k).cells x p
 pinned_known k unread written x here p =
     look_up_past k.written (pinned_copy k).cells x p (λ i c there same. let none = subst (λ y. times y (pinned_copy k).rows ≡ 0) same (unread c.row (written i c there)) in omega (arith, none, here))
 
--- the steps of a pass, by what it knows afterwards
-module _ (rows : ℕ) (k : Known) (holds : HoldsFresh rows k) where
-  holds-write : (l : Known) (row place w : ℕ) → In row k.core.fresh → l ≡ writing row place w k → HoldsFresh rows l
-  holds-write l row place w fresh now =
-      subst (HoldsFresh rows) (sym now) (record { once = holds.once; inside = holds.inside; unread = holds.unread; written_fresh = written_now })
-    where
-      written_now : (i : ℕ) (c : Cell) → get_elem? (record { row = row; place = place; word = w } ∷ forget row place k.written) i ≡ some c → In c.row k.core.fresh
-      written_now zero c there = subst (λ (x : Cell). In x.row k.core.fresh) (some-injective _ c there) fresh
-      written_now (suc i) c there = let was = at_filter (λ (c : Cell). not (eqb c.row row && eqb c.place place)) k.written i c there in holds.written_fresh was.0 c was.1
-
 module _ {L : Type 0} {G : Ghosts L Entry} (r : Rows L Entry) where
-  pub holds_fresh : (p : Pass L Entry G) → IsBuilding r p → HoldsFresh r.rows (known_of p)
-  holds_fresh p building = record { once = building.once; inside = building.inside; unread = building.unread; written_fresh = building.written_fresh }
-
-  pub is_building : (p : Pass L Entry G) → IsPassOf r p → HoldsFresh r.rows (known_of p) → IsBuilding r p
-  is_building p is_pass holds = record { is_pass = is_pass; once = holds.once; inside = holds.inside; unread = holds.unread; written_fresh = holds.written_fresh }
+  -- each pass may build that took few rows
+  pub may_build : (p : Pass L Entry G) → IsPassOf r p → IsCounted (known_of p) (marked_of p) → IsBuilding r p
+  may_build p is_pass counted = record {
+    is_pass = is_pass;
+    once = λ x. let once = p.tied.holds.different x in let both = times-append x (known_of p).core.fresh (rows_in (known_of p).core.retired) in omega arith;
+    inside = λ x here. let low = fresh_inside (known_of p) p.tied.holds x here in let same = is_pass.sized.rows_are in omega arith;
+    unread = p.tied.tree.unread;
+    written_fresh = p.tied.written_fresh;
+    counted = counted;
+  }
 
   -- a word of a row of the pinned tree is the one that it has there
   pub pinned_words : (p : Pass L Entry G) → IsBuilding r p → (x : ℕ) → In x (pinned_copy (known_of p)).rows → (k : ℕ) → look_up (known_words (known_of p)) x k ≡ look_up (pinned_copy (known_of p)).cells x k
@@ -273,11 +268,10 @@ module _ {L : Type 0} {G : Ghosts L Entry} (r : Rows L Entry) where
 
   pub looks_do : (rows : List ℕ) (p q : Pass L Entry G) → IsBuilding r p → LooksIn r rows p q → Does r [] [] [] p q
   looks_do rows p q building looks =
-      let now = looks.reads.now in
-      let holds = holds_fresh p building in record {
+      let now = looks.reads.now in record {
         building =
-            is_building q looks.is_pass
-            (subst (HoldsFresh r.rows) (sym now) (record { once = holds.once; inside = holds.inside; unread = holds.unread; written_fresh = holds.written_fresh }));
+            may_build q looks.is_pass
+            (subst (IsCounted (known_of q)) (sym looks.same_marks) (counted_reads (known_of p) (marked_of p) building.counted rows (known_of q) p.tied.tree.inside looks.reads));
         same_number = looks.same_number;
         same_seen = looks.same_seen;
         same_lists = looks.same_lists;
@@ -295,6 +289,7 @@ module _ {L : Type 0} {G : Ghosts L Entry} (r : Rows L Entry) where
         fresh = ap (λ (k : Known). k.core.fresh) now ∙ sym (append-nil (known_of p).core.fresh);
         marks = looks.same_marks ∙ sym (append-nil (marked_of p));
         elsewhere = λ x k none. ap (λ cells. look_up cells x k) (looks_words rows p q looks);
+        full = ap (λ (k : Known). k.full) now;
       }
 
   -- a word was read
@@ -304,7 +299,7 @@ module _ {L : Type 0} {G : Ghosts L Entry} (r : Rows L Entry) where
   -- a word was written
   pub write_word_does : (p q : Pass L Entry G) (row place w : ℕ) → IsBuilding r p → In row (known_of p).core.fresh → IsPassOf r q → HasSame p q → known_of q ≡ writing row place w (known_of p) → Does r [] [] (row ∷ []) p q
   write_word_does p q row place w building fresh is_pass same now = record {
-    building = is_building q is_pass (holds-write r.rows (known_of p) (holds_fresh p building) (known_of q) row place w fresh now);
+    building = may_build q is_pass (subst (IsCounted (known_of q)) (sym same.same_marks) (counted_write (known_of p) (marked_of p) building.counted (known_of q) row place w now));
     same_number = same.same_pass.same_number;
     same_seen = same.same_seen;
     same_lists = same.same_lists;
@@ -323,4 +318,24 @@ module _ {L : Type 0} {G : Ghosts L Entry} (r : Rows L Entry) where
     marks = same.same_marks ∙ sym (append-nil (marked_of p));
     elsewhere =
         outside_elsewhere row place (place + 1) (known_words (known_of p)) (known_words (known_of q)) (written_outside (known_of p) (known_of q) row place w now);
+    full = ap (λ (k : Known). k.full) now;
   }
+
+  -- a row of the pinned tree was marked
+  pub mark_does : (p q : Pass L Entry G) (row : ℕ) → IsBuilding r p → In row (pinned_copy (known_of p)).rows → times row (marked_of p) ≡ 0 → IsPassOf r q → IsSamePass p q → knows_of q ≡ knows_of p → marked_of q ≡ marked_of p ++ row ∷ []
+      → Does r [] (row ∷ []) [] p q
+  mark_does p q row building here unmarked is_pass same knows marks =
+      let now : known_of q ≡ known_of p = ap (λ (k : Knows Entry). k.view) knows in record {
+        building =
+            may_build q is_pass
+            (subst (IsCounted (known_of q)) (sym marks) (subst (λ k. IsCounted k (marked_of p ++ row ∷ [])) (sym now) (counted_marked (known_of p) (marked_of p) building.counted row here unmarked)));
+        same_number = same.same_number;
+        same_seen = ap (λ (k : Knows Entry). k.seen) knows;
+        same_lists = ap (λ (k : Knows Entry). k.lists) knows;
+        same_memory = same.same_memory;
+        builds = subst (Builds (known_of p)) (sym now) (builds_none (known_of p));
+        fresh = ap (λ (k : Known). k.core.fresh) now ∙ sym (append-nil (known_of p).core.fresh);
+        marks = marks;
+        elsewhere = λ x k none. ap (λ (l : Known). look_up (known_words l) x k) now;
+        full = ap (λ (k : Known). k.full) now;
+      }

@@ -1,5 +1,5 @@
 -- Points that a pass puts into leaves in its rows.
-use Rattle.std.proofs.Common.{◌≡◌, ◌≢◌, ℕ, zero, suc, ◌+◌, ◌-◌, ◌*◌, ◌<◌, ◌≤◌, ◌⊎◌, inl, inr, ⊎_elim, true, IsTrue, ℤ, Option, Some, None, IfSome, List, [], ◌∷◌, ◌++◌, length, map, take, drop, get_or, refl, sym, ap, ap₂, subst, ◌∙◌, arith, length-append}
+use Rattle.std.proofs.Common.{◌≡◌, ◌≢◌, ℕ, zero, suc, ◌+◌, ◌-◌, ◌*◌, ◌<◌, ◌≤◌, ◌⊎◌, inl, inr, ⊎_elim, true, IsTrue, ℤ, Option, Some, None, MatchOption, List, [], ◌∷◌, ◌++◌, length, map, take, drop, get_or, refl, sym, ap, ap₂, subst, ◌∙◌, arith, length-append}
 use Rattle.std.proofs.lemmas.Grind.{flat_map-append}
 use Rattle.std.proofs.lemmas.List.{take_more, take_all, drop-map, take-map, map-append, length-map}
 use Rattle.std.proofs.lemmas.Bool.{and_parts}
@@ -8,7 +8,7 @@ use Rattle.era_core.specs.Lists.{times, In}
 use Rattle.era_core.specs.Versions.{Cell, Copy, look_up}
 use Rattle.era_core.proofs.ListFacts.{times-append, times-head, times-tail, in_head, in_tail}
 use Rattle.era_rows.specs.Known.{Known, pinned_copy, known_words}
-use Rattle.era_rows.specs.Passes.{known_of, IsReadable}
+use Rattle.era_rows.specs.Passes.{known_of, marked_of, IsReadable}
 use Rattle.era_rows.specs.declared.pass.Pass.{Pass}
 use Rattle.era_rows.specs.declared.rows.Rows.{Rows}
 use Rattle.era_rows.specs.declared.law.Law.{Ghosts}
@@ -22,11 +22,13 @@ use Rattle.nd_rows.specs.declared.layout.TheConstants.{LEAF, INNER, FIRST_LINK, 
 use Rattle.nd_rows.specs.Nodes.{Placed, rows_with}
 use Rattle.nd_rows.specs.Layout.{HasWords, HasValue, IsLinkRow, IsBoxRow, IsPointRow}
 use Rattle.nd_update.specs.Building.{Elsewhere, Outside, IsBuilding, Does}
+use Rattle.nd_update.specs.Counted.{IsPaid}
 use Rattle.nd_update.specs.Insertion.{at_places, box_around, grown_by, values_with}
 use Rattle.nd_update.specs.Naming.{IsLeafRow}
 use Rattle.nd_update.specs.FilledLeaves.{HasLinked, IsGroupLeaf, AreGroupLeaves, AreDivided, IsPut, grown_all, values_box}
 use Rattle.nd_update.proofs.Alike.{Agree, words-alike, links-alike, box-alike, point-alike, points-alike}
-use Rattle.nd_update.proofs.Building.{words_outside, words_snoc, does_both, does_read, does_wider, writes_both, now_fresh, still_fresh, still_readable, still_pinned}
+use Rattle.nd_update.proofs.Building.{words_outside, words_snoc, does_both, does_wider, writes_both, now_fresh, still_fresh, still_readable, still_pinned}
+use Rattle.nd_update.proofs.Paying.{paid_took}
 
 no_times : (n : ℕ) → (0 < n → ⊥) → n ≡ 0
 no_times zero none = refl
@@ -174,8 +176,8 @@ module _ {L : Type 0} {G : Ghosts L Entry} (r : Rows L Entry) (objectives at lea
   pub point_does : Does r (at ∷ []) [] (at ∷ []) p s
   point_does = does_both r (at ∷ []) [] [] [] [] (at ∷ []) p q s took wrote
 
-  pub point_only : (t : Pass L Entry G) → Does r [] [] [] s t → Does r (at ∷ []) [] (at ∷ []) p t
-  point_only t more = does_read r (at ∷ []) [] (at ∷ []) p s t point_does more
+  pub point_paid : (n : ℕ) → IsBuilding r p → IsPaid n (known_of p) (marked_of p) → IsPaid (n + 1) (known_of s) (marked_of s)
+  point_paid n building paid = paid_took r n at [] (at ∷ []) p s building point_does paid
 
   module _ (t u v w : Pass L Entry G) (took' : Does r (leaf ∷ []) [] [] s t) (link : Does r [] [] (leaf ∷ []) t u) (first : Does r [] [] (leaf ∷ []) u v) (box : Does r [] [] (leaf ∷ []) v w) where
     leaf_does : Does r (leaf ∷ []) [] (leaf ∷ []) s w
@@ -253,14 +255,14 @@ module _ {L : Type 0} {G : Ghosts L Entry} (r : Rows L Entry) (objectives at row
   pub linked_on : (placed : List Placed) → HasLinked objectives (known_of p) row placed → HasLinked objectives (known_of s) row placed
   linked_on placed has = linked_still r (at ∷ []) [] (at ∷ []) p s at_does objectives row placed row_apart (λ x readable. taken_apart r (at ∷ []) [] (at ∷ []) p s at_does x readable) has
 
+  pub put_kept : (u : Pass L Entry G) → ((k : ℕ) → IDEAL ≤ k → look_up (known_words (known_of u)) row k ≡ look_up (known_words (known_of s)) row k) → (k : ℕ) → IDEAL ≤ k → look_up (known_words (known_of u)) row k ≡ look_up (known_words (known_of p)) row k
+  put_kept u kept k high = kept k high ∙ at_does.elsewhere row k row_apart
+
   module _ (u : Pass L Entry G) (leaves : List ℕ) (filled : Does r leaves [] (row ∷ leaves) s u) where
     pub put_does : Does r (at ∷ leaves) [] (row ∷ at ∷ leaves) p u
     put_does =
         does_wider r (at ∷ leaves) [] (at ∷ row ∷ leaves) (row ∷ at ∷ leaves) p u (λ x here. omega (arith, here))
         (does_both r (at ∷ []) [] (at ∷ []) leaves [] (row ∷ leaves) p s u at_does filled)
-
-    pub put_kept : ((k : ℕ) → IDEAL ≤ k → look_up (known_words (known_of u)) row k ≡ look_up (known_words (known_of s)) row k) → (k : ℕ) → IDEAL ≤ k → look_up (known_words (known_of u)) row k ≡ look_up (known_words (known_of p)) row k
-    put_kept kept k high = kept k high ∙ at_does.elsewhere row k row_apart
 
     pub put_point : (point : Point) → IsPointRow objectives (known_words (known_of s)) (record { row = at; point = point }) → IsPointRow objectives (known_words (known_of u)) (record { row = at; point = point })
     put_point point is =
@@ -293,6 +295,6 @@ leaf_row row placed q a b c has out there first word =
     (first_row LEAF row (rows_with placed ++ q.row ∷ []) b c
     (link_more row (rows_with placed) (FIRST_LINK + length placed) q.row a b has (omega arith) out there) first (word ∙ ap (λ n. Some (KINDS * n + LEAF)) (sym all)))
 
-pub if_some : {A : Type 0} (o : Option A) (P Q : A → Type 0) → ((x : A) → P x → Q x) → IfSome o P → IfSome o Q
-if_some None P Q on none = none
-if_some (Some x) P Q on is = on x is
+pub match_both : {A : Type 0} (o : Option A) (M N : Type 0) (P Q : A → Type 0) → (M → N) → ((x : A) → P x → Q x) → MatchOption o M P → MatchOption o N Q
+match_both None M N P Q none on is = none is
+match_both (Some x) M N P Q none on is = on x is

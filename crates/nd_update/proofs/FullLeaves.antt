@@ -208,10 +208,12 @@ module _ (objectives : ℕ) (cells : List Cell) (placed : List Placed) (each : E
       let d = some_parts objectives cells placed each long value parts in
       subst (λ vs. Every (λ ks. (0 < length ks) × (length ks ≤ 20)) (split vs)) (same_values values) (few-groups 0 objectives d.0 d.1 (record { ideal = []; nadir = [] }) points no_nodes long_points many)
 
-  pub groups_count : length (split values) ≤ 5
-  groups_count =
+  pub groups_are : length (split values) ≡ objectives + 1
+  groups_are =
       let d = some_parts objectives cells placed each long value parts in
-      let low = d.1 in
       let full = many in
       let n : length (split (values_with points)) ≡ objectives + 1 = many_groups 0 objectives d.0 d.1 (record { ideal = []; nadir = [] }) points no_nodes long_points (omega arith) in
       let same : length (split (values_with points)) ≡ length (split values) = ap (λ vs. length (split vs)) (same_values values) in omega arith
+
+  pub groups_count : length (split values) ≤ 5
+  groups_count = let low = (some_parts objectives cells placed each long value parts).1 in let n = groups_are in omega arith

@@ -1,31 +1,34 @@
 -- A pass that builds has the entries and the version that it had.
-use Rattle.std.proofs.Common.{◌≡◌, ℕ, ◌<◌, ◌≤◌, Some, false, List, refl, sym, ap, subst, ◌∙◌, arith}
-use Rattle.era_core.specs.Lists.{times, In}
-use Rattle.era_core.specs.Views.{rows_in}
-use Rattle.era_core.proofs.ListFacts.{times-append}
+use Rattle.std.proofs.Common.{◌≡◌, ℕ, ◌+◌, ◌*◌, ◌≤◌, List, length, sym, ap, subst, ◌∙◌, arith}
+use Rattle.era_core.specs.Versions.{Copy}
 use Rattle.era_rows.specs.Known.{Known, pinned_copy}
-use Rattle.era_rows.specs.Passes.{known_of, IsPassOf, HasSame}
+use Rattle.era_rows.specs.Passes.{known_of, marked_of, IsPassOf, HasSame}
 use Rattle.era_rows.specs.declared.pass.Pass.{Pass}
 use Rattle.era_rows.specs.declared.rows.Rows.{Rows}
 use Rattle.era_rows.specs.declared.law.Law.{Ghosts}
-use Rattle.era_rows.proofs.Holding.{fresh_inside}
 use Rattle.pls_archive.specs.declared.call.Entry.{Entry}
 use Rattle.nd_rows.specs.Reads.{ReadsIn}
-use Rattle.nd_update.specs.Building.{Builds, IsBuilding, Does}
-use Rattle.nd_update.specs.Built.{Goes}
-use Rattle.nd_update.proofs.Building.{builds_both}
+use Rattle.nd_update.specs.Building.{Builds, Does, Goes}
+use Rattle.nd_update.specs.Counted.{IsCounted, IsWithin, IsCrowded, IsShort}
+use Rattle.nd_update.proofs.Building.{builds_both, same_copy}
+use Rattle.nd_update.proofs.Counting.{counted_reads, short_same}
+
+-- where a pass that was alone has all rows, they are few still
+pub still_crowded : (k l : Known) → Builds k l → IsCrowded k → IsCrowded l
+still_crowded k l builds crowded alone =
+    let few = crowded (sym builds.passes ∙ alone.0, (alone.1.0, alone.1.1, sym builds.pinned ∙ alone.1.2, ap length (sym builds.copies) ∙ alone.1.3)) in
+    let tree : length (pinned_copy l).rows ≡ length (pinned_copy k).rows = ap (λ (c : Copy). length c.rows) (same_copy k l builds) in
+    omega (arith, few, builds.rows, builds.shape, tree)
+
+-- a pass that has found nothing more
+module _ (k l : Known) (builds : Builds k l) (looks : l.looks ≡ k.looks) where
+  pub still_within : IsWithin k → IsWithin l
+  still_within within = rw (same_copy k l builds, builds.shape, builds.rows, builds.passes, builds.since, looks) within
+
+  pub still_short : l.full ≡ k.full → l.core.retired ≡ k.core.retired → IsShort k → IsShort l
+  still_short full retired short = short_same k l full builds.shape builds.passes builds.rows builds.number looks builds.since retired short
 
 module _ {L : Type 0} {G : Ghosts L Entry} (r : Rows L Entry) where
-  -- each pass may build
-  pub may_build : (p : Pass L Entry G) → IsPassOf r p → IsBuilding r p
-  may_build p is_pass = record {
-    is_pass = is_pass;
-    once = λ x. let once = p.tied.holds.different x in let both = times-append x (known_of p).core.fresh (rows_in (known_of p).core.retired) in omega arith;
-    inside = λ x here. let low = fresh_inside (known_of p) p.tied.holds x here in let same = is_pass.sized.rows_are in omega arith;
-    unread = p.tied.tree.unread;
-    written_fresh = p.tied.written_fresh;
-  }
-
   pub goes_does : (t m c : List ℕ) (p q : Pass L Entry G) → Does r t m c p q → Goes r p q
   goes_does t m c p q one = record {
     is_pass = one.building.is_pass;
@@ -56,6 +59,10 @@ module _ {L : Type 0} {G : Ghosts L Entry} (r : Rows L Entry) where
           looked = (reads.more, sym (ap (λ (k : Known). k.looks) now));
         };
       }
+
+  -- few rows were taken before and so after it
+  pub reads_counted : (rows : List ℕ) (p q : Pass L Entry G) → HasSame p q → ReadsIn rows (known_of p) (known_of q) → IsCounted (known_of p) (marked_of p) → IsCounted (known_of q) (marked_of q)
+  reads_counted rows p q same reads counted = subst (IsCounted (known_of q)) (sym same.same_marks) (counted_reads (known_of p) (marked_of p) counted rows (known_of q) p.tied.tree.inside reads)
 
   pub goes_both : (p q s : Pass L Entry G) → Goes r p q → Goes r q s → Goes r p s
   goes_both p q s one two = record {

@@ -41,10 +41,14 @@ pub mod InnerDone
 pub mod Settling
 pub mod RemovingAll
 pub mod Building
+pub mod Lacking
 pub mod Writing
 pub mod TakingRows
 pub mod Publishing
 pub mod Going
 pub mod Uncovered
 pub mod Published
+pub mod Paying
+pub mod Counting
+pub mod Sizes
 mod WorkedUpdates

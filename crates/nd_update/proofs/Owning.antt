@@ -17,15 +17,13 @@ use Rattle.nd_rows.specs.declared.layout.TheConstants.{FIRST_LINK, IDEAL, NADIR}
 use Rattle.nd_rows.specs.Nodes.{Placed, Nodes, no_nodes, leaf, inner, heads, rows_of, rows_with}
 use Rattle.nd_rows.specs.Layout.{HasWords, IsLinkRow, IsBoxRow}
 use Rattle.nd_update.specs.Building.{Outside, IsBuilding, Does}
+use Rattle.nd_update.specs.Counted.{IsPaid, WasRead}
 use Rattle.nd_update.specs.Ways.{IsBox, HasNode, IsOwned, touched, touched_box, link_count}
 use Rattle.nd_update.proofs.Alike.{words-alike, links-alike}
 use Rattle.nd_update.proofs.Building.{does_both, does_write, does_wider, writes_both, still_fresh, now_fresh, words_outside, still_pinned}
 use Rattle.nd_update.proofs.Filling.{taken_apart, still_words}
+use Rattle.nd_update.proofs.Paying.{still_read, paid_marked}
 use Rattle.nd_update.proofs.Touching.{kind_of, links_of, node_touched, node_first, node_box, node_alone, box_of_one, box_grown, corners_long}
-
-pub match_some : {A : Type 0} (o : Option A) (N : Type 0) (P Q : A → Type 0) → ((x : A) → P x → Q x) → MatchOption o N P → MatchOption o N Q
-match_some None N P Q on none = none
-match_some (Some x) N P Q on is = on x is
 
 pub match_none : {A : Type 0} (o : Option A) (N : Type 0) (P : A → Type 0) → o ≡ None → N → MatchOption o N P
 match_none o N P none is = subst (λ x. MatchOption x N P) (sym none) is
@@ -41,10 +39,29 @@ module _ {L : Type 0} {G : Ghosts L Entry} (r : Rows L Entry) (row own : ℕ) (p
       words-alike 0 (known_words (known_of p)) (known_words (known_of s)) row FIRST_LINK links
       (still_words r (own ∷ []) [] (own ∷ []) p s begun 0 row (taken_apart r (own ∷ []) [] (own ∷ []) p s begun row readable)) has
 
+  pub copied_apart : row ≡ own → ⊥
+  copied_apart same =
+      let none = taken_apart r (own ∷ []) [] (own ∷ []) p s begun row readable in
+      let head = subst (λ x. times row (x ∷ []) ≡ 1) same (times-head row []) in omega (arith, none, head)
+
+  module _ (u : Pass L Entry G) (copied : Does r [] [] (own ∷ []) s u) where
+    pub copied_does : Does r (own ∷ []) [] (own ∷ []) p u
+    copied_does = does_write r (own ∷ []) [] (own ∷ []) (own ∷ []) p s u (λ x here. here) begun copied
+
+    -- the row is one of the pinned tree still, and unmarked
+    pub copied_here : In row (pinned_copy (known_of p)).rows → In row (pinned_copy (known_of u)).rows
+    copied_here here = subst (λ (y : Copy). In row y.rows) (sym (still_pinned r (own ∷ []) [] (own ∷ []) p u copied_does)) here
+
+    pub copied_unmarked : times row (marked_of p) ≡ 0 → times row (marked_of u) ≡ 0
+    copied_unmarked none = ap (times row) (copied_does.marks ∙ append-nil (marked_of p)) ∙ none
+
   module _ (u w : Pass L Entry G) (copied : Does r [] [] (own ∷ []) s u) (marks : Does r [] (row ∷ []) [] u w) where
     pub copy_does : Does r (own ∷ []) (row ∷ []) (own ∷ []) p w
-    copy_does =
-        does_both r (own ∷ []) [] (own ∷ []) [] (row ∷ []) [] p u w (does_write r (own ∷ []) [] (own ∷ []) (own ∷ []) p s u (λ x here. here) begun copied) marks
+    copy_does = does_both r (own ∷ []) [] (own ∷ []) [] (row ∷ []) [] p u w (copied_does u copied) marks
+
+    pub copy_paid : (n : ℕ) → IsBuilding r p → times row (marked_of p) ≡ 0 → WasRead row (known_of p) → IsPaid n (known_of p) (marked_of p) → IsPaid n (known_of w) (marked_of w)
+    copy_paid n building unmarked read paid =
+        paid_marked r n (own ∷ []) row [] (own ∷ []) p w building copy_does unmarked (still_read r (own ∷ []) (row ∷ []) (own ∷ []) p w building copy_does row read) (omega arith) paid
 
     pub copy_row : (kind count : ℕ) (links : List ℕ) → look_up (known_words (known_of s)) own 0 ≡ Some (KINDS * length links + kind) → Outside own FIRST_LINK (FIRST_LINK + count) (known_words (known_of s)) (known_words (known_of u))
         → HasWords (known_words (known_of u)) own FIRST_LINK links → IsLinkRow (known_words (known_of w)) kind own links

@@ -1,12 +1,12 @@
 -- Steps of a pass that removes: its list changes, a row is marked, and what was pinned stays so.
-use Rattle.std.proofs.Common.{◌≡◌, ℕ, zero, suc, ◌+◌, ◌%◌, ◌<◌, ◌≤◌, Bool, true, false, nat_lt, nat_le, if◌then◌else◌, Some, List, [], ◌∷◌, ◌++◌, length, take, drop, get_or, refl, sym, ap, subst, ◌∙◌, arith, append-nil}
+use Rattle.std.proofs.Common.{◌≡◌, ℕ, zero, suc, ◌+◌, ◌%◌, ◌<◌, ◌≤◌, Bool, true, false, nat_lt, nat_le, if◌then◌else◌, Some, List, [], ◌∷◌, ◌++◌, length, take, drop, get_or, refl, sym, ap, subst, ◌∙◌, arith}
 use Rattle.std.specs.Prelude.{◌||◌}
 use Rattle.std.proofs.lemmas.Bool.{lt-ltb, le-ltb}
 use Rattle.era_core.specs.declared.sizes.TheConstants.{ROOT_ROWS}
-use Rattle.era_core.specs.Lists.{times, In}
-use Rattle.era_core.specs.Versions.{Cell, Copy, look_up}
-use Rattle.era_rows.specs.Known.{Known, pinned_copy, known_words}
-use Rattle.era_rows.specs.Passes.{knows_of, known_of, marked_of, memory_of, IsPassOf, IsSamePass}
+use Rattle.era_core.specs.Lists.{In}
+use Rattle.era_core.specs.Versions.{Copy, look_up}
+use Rattle.era_rows.specs.Known.{pinned_copy}
+use Rattle.era_rows.specs.Passes.{knows_of, known_of, marked_of, memory_of, IsPassOf}
 use Rattle.era_rows.specs.declared.pass.Pass.{Pass}
 use Rattle.era_rows.specs.declared.rows.Rows.{Rows}
 use Rattle.era_rows.specs.declared.law.Law.{Ghosts}
@@ -15,10 +15,10 @@ use Rattle.pls_archive.specs.Lists.{one_if}
 use Rattle.nd_rows.specs.Layout.{HasWords}
 use Rattle.nd_rows.proofs.Looks.{looks_work}
 use Rattle.nd_rows.proofs.Sides.{word_at}
-use Rattle.nd_update.specs.Building.{Builds, IsBuilding, Does}
+use Rattle.nd_update.specs.Building.{IsBuilding, Does}
 use Rattle.nd_update.specs.Left.{gone_word, is_touched, alive}
 use Rattle.nd_update.proofs.Filters.{by_test}
-use Rattle.nd_update.proofs.Building.{builds_none, looks_do, still_pinned}
+use Rattle.nd_update.proofs.Building.{looks_do, still_pinned}
 use lib.ListN.{get_elem?}
 use mathlib.Core.Option.{some, some-injective, some-ne-none}
 
@@ -45,28 +45,6 @@ module _ {L : Type 0} {G : Ghosts L Entry} (r : Rows L Entry) where
   -- the list alone has changed
   pub does_work : (p q : Pass L Entry G) → IsBuilding r p → ((x : Rows L Entry) → IsPassOf x p → IsPassOf x q) → q.number ≡ p.number → knows_of q ≡ knows_of p → marked_of q ≡ marked_of p → memory_of q ≡ memory_of p → Does r [] [] [] p q
   does_work p q building pass number knows marks memory = looks_do r [] p q building (looks_work r [] p q building.is_pass pass number knows marks memory)
-
-  -- a row was marked
-  pub does_mark : (p q : Pass L Entry G) (row : ℕ) → IsBuilding r p → IsPassOf r q → IsSamePass p q → knows_of q ≡ knows_of p → marked_of q ≡ marked_of p ++ row ∷ [] → Does r [] (row ∷ []) [] p q
-  does_mark p q row building pass same knows marks =
-      let e : known_of q ≡ known_of p = ap (λ k. k.view) knows in
-      record {
-        building = record {
-          is_pass = pass;
-          once = subst (λ (k : Known). (x : ℕ) → times x k.core.fresh ≤ 1) (sym e) building.once;
-          inside = subst (λ (k : Known). (x : ℕ) → In x k.core.fresh → x < r.rows) (sym e) building.inside;
-          unread = subst (λ (k : Known). (x : ℕ) → In x k.core.fresh → times x (pinned_copy k).rows ≡ 0) (sym e) building.unread;
-          written_fresh = subst (λ (k : Known). (i : ℕ) (c : Cell) → get_elem? k.written i ≡ some c → In c.row k.core.fresh) (sym e) building.written_fresh;
-        };
-        same_number = same.same_number;
-        same_seen = ap (λ k. k.seen) knows;
-        same_lists = ap (λ k. k.lists) knows;
-        same_memory = same.same_memory;
-        builds = subst (Builds (known_of p)) (sym e) (builds_none (known_of p));
-        fresh = ap (λ (k : Known). k.core.fresh) e ∙ sym (append-nil (known_of p).core.fresh);
-        marks = marks;
-        elsewhere = λ x k none. ap (λ (kn : Known). look_up (known_words kn) x k) e;
-      }
 
   -- what holds of the pinned copy holds still
   pub stay_pinned : (P : Copy → Type 0) (t m c : List ℕ) (p q : Pass L Entry G) → Does r t m c p q → P (pinned_copy (known_of p)) → P (pinned_copy (known_of q))

@@ -4,9 +4,9 @@ use Rattle.std.specs.Prelude.{IfSome}
 use Rattle.era_core.specs.declared.sizes.TheConstants.{ROOT_ROWS}
 use Rattle.era_core.specs.Lists.{times, In}
 use Rattle.era_core.specs.Versions.{Cell, Copy, look_up}
-use Rattle.era_core.proofs.ListFacts.{times-append}
+use Rattle.era_core.proofs.ListFacts.{times-append, times-head}
 use Rattle.era_rows.specs.Known.{pinned_copy, known_words}
-use Rattle.era_rows.specs.Passes.{known_of, marked_of, work_of}
+use Rattle.era_rows.specs.Passes.{knows_of, known_of, marked_of, work_of, IsPassOf, IsSamePass}
 use Rattle.era_rows.specs.declared.pass.Pass.{Pass}
 use Rattle.era_rows.specs.declared.rows.Rows.{Rows}
 use Rattle.era_rows.specs.declared.law.Law.{Ghosts}
@@ -18,11 +18,13 @@ use Rattle.nd_rows.specs.Walk.{HasPlaced}
 use Rattle.nd_update.specs.Removal.{is_hit, without_dominated, dropped}
 use Rattle.nd_update.specs.Naming.{names_of}
 use Rattle.nd_update.specs.Building.{Elsewhere, IsBuilding, Does}
+use Rattle.nd_update.specs.Counted.{WasRead, IsPaid}
 use Rattle.nd_update.specs.Left.{hits, entry, is_touched, hits_of, IsHitLeaf, IsBoxed, IsNodeLeft, AreKidsLeft}
 use Rattle.nd_update.specs.Sweeps.{Settles, Sweeps}
-use Rattle.nd_update.proofs.Building.{does_as, does_both, does_read, read_does}
+use Rattle.nd_update.proofs.Building.{does_as, does_both, does_read, read_does, pinned_words, mark_does}
 use Rattle.nd_update.proofs.Removing.{inside_now, stay_pinned, row_still}
 use Rattle.nd_update.proofs.Listing.{seam_is}
+use Rattle.nd_update.proofs.Paying.{paid_still, paid_marked}
 use Rattle.nd_update.proofs.Sweeping as sweep
 use mathlib.Core.Option.{some}
 use lib.ListN.{get_elem?}
@@ -44,6 +46,19 @@ taken_apart r p q t m c does x here =
 pub map_some : {A : Type 0} (o : Option A) (P Q : A → Type 0) → ((x : A) → P x → Q x) → IfSome o P → IfSome o Q
 map_some None P Q f is = tt
 map_some (Some x) P Q f is = f x is
+
+pub both_some : {A : Type 0} (o : Option A) (P Q : A → Type 0) → IfSome o P → IfSome o Q → IfSome o (λ x. P x × Q x)
+both_some None P Q p q = tt
+both_some (Some x) P Q p q = (p, q)
+
+pub of_some : {A : Type 0} (o : Option A) (x : A) (P : A → Type 0) → o ≡ Some x → IfSome o P → P x
+of_some o x P e is = subst (λ a. IfSome a P) e is
+
+-- at most one row was taken, for the row of a node that was read and then marked
+pub node_paid : {L : Type 0} {G : Ghosts L Entry} (r : Rows L Entry) (t : List ℕ) (x : ℕ) (m c : List ℕ) (p q : Pass L Entry G) → IsBuilding r p → Does r t (x ∷ m) c p q → times x (marked_of p) ≡ 0
+    → (0 < length t → WasRead x (known_of q)) → length t ≤ 1 → IsPaid 0 (known_of p) (marked_of p) → IsPaid 0 (known_of q) (marked_of q)
+node_paid r [] x m c p q building does unmarked read one paid = paid_still r 0 (x ∷ m) c p q building does paid
+node_paid r (y ∷ t) x m c p q building does unmarked read one paid = paid_marked r 0 (y ∷ t) x m c p q building does unmarked (read (omega arith)) one paid
 
 -- a version is pinned still
 pub pinned_still : {L : Type 0} {G : Ghosts L Entry} (r : Rows L Entry) (p q : Pass L Entry G) (t m c : List ℕ) → Does r t m c p q → (n x : ℕ) × ((known_of p).core.pinned ≡ Some (n, x)) → (n x : ℕ) × ((known_of q).core.pinned ≡ Some (n, x))
@@ -98,16 +113,19 @@ module _ {L : Type 0} {G : Ghosts L Entry} (r : Rows L Entry) (p : Pass L Entry 
     pub settle_few : length placed ≤ 20
     settle_few = sweep.leaf_few r.rows v r.shape copy r.few_rows inside others (work_of p) cells fresh (marked_of p) removed row b placed later can
 
-    pub settle_count : (first : ℕ) → ((w : ℕ) → look_up copy.cells row 0 ≡ Some w → first ≡ w) → length placed ≡ first / 4
+    pub settle_count : (first : ℕ) → ((w : ℕ) → look_up cells row 0 ≡ Some w → first ≡ w) → length placed ≡ first / 4
     settle_count first word =
         let there = can.pending.written.0.first in
-        sweep.leaf_count r.rows v r.shape copy r.few_rows inside others (work_of p) cells fresh (marked_of p) removed row b placed later can first (there ∙ ap Some (sym (word _ there)))
+        sweep.leaf_count r.rows v r.shape copy r.few_rows inside others (work_of p) cells fresh (marked_of p) removed row b placed later can first (there ∙ ap Some (sym (word _ (pinned_words r p building row settle_row 0 ∙ there))))
 
     pub settle_hit : (count : ℕ) (hit : List Bool) → length placed ≡ count → 0 < length placed → hit ≡ hits_of v placed → IsHitLeaf r.shape copy row count hit v b placed
     settle_hit = sweep.hit_leaf r.rows v r.shape copy r.few_rows inside others (work_of p) cells fresh (marked_of p) removed row b placed later can
 
     pub settle_marks : (x : ℕ) → times x (marked_of p) + times x (row ∷ rows_with placed) ≤ 1
     settle_marks = sweep.leaf_marks r.rows v r.shape copy r.few_rows inside others (work_of p) cells fresh (marked_of p) removed row b placed later can
+
+    pub settle_unmarked : times row (marked_of p) ≡ 0
+    settle_unmarked = let few = settle_marks row in let once = times-head row (rows_with placed) in omega (arith, few, once)
 
     -- after looks at it, and after other steps
     module _ (s : Pass L Entry G) (t c : List ℕ) (does : Does r t [] c p s) where
@@ -145,6 +163,10 @@ module _ {L : Type 0} {G : Ghosts L Entry} (r : Rows L Entry) (p : Pass L Entry 
 
     pub kids_unmarked : times row (marked_of p) ≡ 0
     kids_unmarked = sweep.inner_unmarked r.rows v r.shape copy r.few_rows inside others (work_of p) cells fresh (marked_of p) removed row b kids later can over count counted
+
+    pub kids_marked : (u w : Pass L Entry G) (t : List ℕ) → Does r t [] t p u → IsPassOf r w → IsSamePass u w → knows_of w ≡ knows_of u → marked_of w ≡ marked_of u ++ row ∷ [] → Does r [] (row ∷ []) [] u w
+    kids_marked u w t does is_pass same knows marks =
+        mark_does r u w row does.building (row_still r t [] t p u does row kids_row) (ap (times row) (does.marks ∙ append-nil (marked_of p)) ∙ kids_unmarked) is_pass same knows marks
 
     -- as many words as there are children are on the list
     pub kids_length : count ≤ length (work_of p)

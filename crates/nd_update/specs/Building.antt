@@ -9,6 +9,7 @@ use Rattle.era_rows.specs.declared.pass.Pass.{Pass}
 use Rattle.era_rows.specs.declared.rows.Rows.{Rows}
 use Rattle.era_rows.specs.declared.law.Law.{Ghosts}
 use Rattle.pls_archive.specs.declared.call.Entry.{Entry}
+use Rattle.nd_update.specs.Counted.{IsCounted, IsWithin, IsCrowded, IsShort}
 use mathlib.Core.Option.{some}
 use lib.ListN.{get_elem?}
 
@@ -32,13 +33,32 @@ pub record Builds (before after : Known) : Type 0 where
   pub looked : IsPrefix before.looks after.looks
 
 module _ {L : Type 0} {G : Ghosts L Entry} where
-  -- the fresh rows of the pass are different rows and in no tree that it has pinned, and it wrote into them alone
+  -- the pass has the entries and the version that it had
+  pub record Goes (r : Rows L Entry) (p q : Pass L Entry G) : Type 0 where
+    pub is_pass : IsPassOf r q
+    pub same_number : q.number ≡ p.number
+    pub same_seen : seen_of q ≡ seen_of p
+    pub same_lists : lists_of q ≡ lists_of p
+    pub same_memory : memory_of q ≡ memory_of p
+    pub builds : Builds (known_of p) (known_of q)
+
+  -- it found no row free after few takes, and keeps an evidence of that
+  pub record Lacks (r : Rows L Entry) (p q : Pass L Entry G) : Type 0 where
+    pub goes : Goes r p q
+    pub within : IsWithin (known_of q)
+    pub crowded : IsCrowded (known_of q)
+    pub short : IsShort (known_of q)
+
+module _ {L : Type 0} {G : Ghosts L Entry} where
+  -- The fresh rows of the pass are different rows and in no tree that it has pinned, and it wrote into them alone. It took no more
+  -- rows than it may
   pub record IsBuilding (r : Rows L Entry) (p : Pass L Entry G) : Type 0 where
     pub is_pass : IsPassOf r p
     pub once : (x : ℕ) → times x (known_of p).core.fresh ≤ 1
     pub inside : (x : ℕ) → In x (known_of p).core.fresh → x < r.rows
     pub unread : (x : ℕ) → In x (known_of p).core.fresh → times x (pinned_copy (known_of p)).rows ≡ 0
     pub written_fresh : (i : ℕ) (c : Cell) → get_elem? (known_of p).written i ≡ some c → In c.row (known_of p).core.fresh
+    pub counted : IsCounted (known_of p) (marked_of p)
 
   -- it took these rows, marked those, and changed words of these rows alone
   pub record Does (r : Rows L Entry) (taken marked changed : List ℕ) (p q : Pass L Entry G) : Type 0 where
@@ -51,3 +71,4 @@ module _ {L : Type 0} {G : Ghosts L Entry} where
     pub fresh : (known_of q).core.fresh ≡ (known_of p).core.fresh ++ taken
     pub marks : marked_of q ≡ marked_of p ++ marked
     pub elsewhere : Elsewhere changed (known_words (known_of p)) (known_words (known_of q))
+    pub full : (known_of q).full ≡ (known_of p).full

@@ -1,18 +1,16 @@
 -- What a pass has built, and what it may publish.
-use Rattle.std.specs.Prelude.{◌≡◌, ℕ, ◌+◌, Bool, true, false, Some, Result, Ok, Err}
+use Rattle.std.specs.Prelude.{ℕ, ◌+◌, Bool, true, false, Result, Ok, Err}
 use Rattle.era_core.specs.Lists.{In}
 use Rattle.era_rows.specs.Known.{copy_known}
 use Rattle.era_rows.specs.May.{AreReplaced, MayPublish}
-use Rattle.era_rows.specs.Passes.{knows_of, known_of, seen_of, lists_of, memory_of, marked_of, IsPassOf}
+use Rattle.era_rows.specs.Passes.{knows_of, known_of, marked_of}
 use Rattle.era_rows.specs.declared.pass.Pass.{Pass}
-use Rattle.era_rows.specs.declared.rows.Rows.{Rows}
 use Rattle.era_rows.specs.declared.law.Law.{Ghosts}
 use Rattle.pls_archive.specs.declared.call.Entry.{Entry}
 use Rattle.pls_archive.specs.declared.point.Point.{Point}
 use Rattle.pls_archive.specs.History.{accepts}
 use Rattle.nd_rows.specs.Entries.{IsRight, added}
 use Rattle.nd_rows.specs.Layout.{IsLawful, StandsFor}
-use Rattle.nd_update.specs.Building.{Builds}
 use Rattle.nd_update.specs.declared.builds.Built.{Built}
 use Rattle.nd_update.specs.declared.builds.BuildRefusal.{BuildRefusal}
 use Rattle.nd_update.specs.declared.builds.BuildRefusal.TheVariants.{Covered, Full}
@@ -24,15 +22,6 @@ says_covered (Err Covered) = true
 says_covered (Err Full) = false
 
 module _ {L : Type 0} {G : Ghosts L Entry} where
-  -- the pass has the entries and the version that it had
-  pub record Goes (r : Rows L Entry) (p q : Pass L Entry G) : Type 0 where
-    pub is_pass : IsPassOf r q
-    pub same_number : q.number ≡ p.number
-    pub same_seen : seen_of q ≡ seen_of p
-    pub same_lists : lists_of q ≡ lists_of p
-    pub same_memory : memory_of q ≡ memory_of p
-    pub builds : Builds (known_of p) (known_of q)
-
   -- The pass has pinned version n, and may publish what it built with the entry of the point. The rows that the new tree has no more
   -- are marked, and it has each fresh row of the pass
   pub record IsPublishable (n : ℕ) (point : Point) (built : Built) (p : Pass L Entry G) : Type 0 where

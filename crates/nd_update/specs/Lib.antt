@@ -2,6 +2,7 @@ pub mod Removal
 pub mod Insertion
 pub mod Naming
 pub mod Updates
+pub mod Counted
 pub mod Building
 pub mod Left
 pub mod FilledLeaves

@@ -1,5 +1,5 @@
 //! The update of a pinned tree by a point.
-ghost use Rattle.std.specs.Prelude.{◌≡◌, ℕ, false, [], IfOk, IfErr, IfSome, length, take};
+ghost use Rattle.std.specs.Prelude.{◌≡◌, ◌≢◌, ℕ, false, None, Err, [], IfOk, IfErr, IfSome, length, take};
 ghost use Rattle.era_rows.specs.Passes.{known_of, seen_of, marked_of, work_of, IsPassOf};
 ghost use Rattle.pls_archive.specs.Archives.{yes_or_no};
 ghost use Rattle.pls_archive.specs.History.{submissions};
@@ -7,7 +7,10 @@ ghost use Rattle.pls_archive.specs.Reply.{nondominated, some_weakly_dominates};
 ghost use Rattle.pls_archive.specs.declared.call.Call.TheVariants.{Covered};
 ghost use Rattle.nd_rows.specs.Nodes.{points_of};
 ghost use Rattle.nd_rows.specs.Reads.{HasPinnedTree};
-ghost use Rattle.nd_update.specs.Built.{Goes, IsPublishable, says_covered};
+ghost use Rattle.nd_update.specs.Building.{Goes, Lacks};
+ghost use Rattle.nd_update.specs.Built.{IsPublishable, says_covered};
+ghost use Rattle.nd_update.specs.Counted.{IsCounted, IsWithin, IsCrowded, IsShort};
+ghost use Rattle.nd_update.specs.declared.builds.BuildRefusal.TheVariants.{Full};
 
 use crate::inserts::insert;
 use crate::removes::remove;
@@ -39,8 +42,12 @@ fn write_tree(rows: &Rows<NdLaw>, pass: &mut Pass<NdLaw>, root: u32, point: &Poi
     requires no_fresh { (known_of pass.old).core.fresh ≡ [] }
     requires no_marks { marked_of pass.old ≡ [] }
     requires idle { work_of pass.old ≡ [] }
+    requires counted { IsCounted (known_of pass.old) (marked_of pass.old) }
     ensures goes { Goes rows.now pass.old pass.new }
     ensures work { work_of pass.new ≡ [] }
+    ensures within { IsWithin (known_of pass.new) }
+    ensures lacks { result ≡ None → Lacks rows.now pass.old pass.new }
+    ensures full { result ≢ None → (known_of pass.new).full ≡ (known_of pass.old).full }
     ensures built { IfSome result (λ b. (n : ℕ) (tree : HasPinnedTree rows.now n pass.old) → some_weakly_dominates (points_of tree.stands.0) point.now.value ≡ false → IsPublishable n point.now b pass.new) }
 {
     let _ = point.value.len();
@@ -56,6 +63,9 @@ fn write_tree(rows: &Rows<NdLaw>, pass: &mut Pass<NdLaw>, root: u32, point: &Poi
 fn give_up(rows: &Rows<NdLaw>, pass: &mut Pass<NdLaw>)
     requires { IsPassOf rows.now pass.old }
     ensures goes { Goes rows.now pass.old pass.new }
+    ensures within { IsWithin (known_of pass.old) → IsWithin (known_of pass.new) }
+    ensures crowded { IsCrowded (known_of pass.old) → IsCrowded (known_of pass.new) }
+    ensures short { IsShort (known_of pass.old) → IsShort (known_of pass.new) }
     ensures fresh { (known_of pass.new).core.fresh ≡ [] }
     ensures marks { marked_of pass.new ≡ [] }
     ensures work { work_of pass.new ≡ work_of pass.old }
@@ -69,8 +79,9 @@ fn give_up(rows: &Rows<NdLaw>, pass: &mut Pass<NdLaw>)
 ///
 /// # Errors
 ///
-/// `Covered` exactly where a point of the pinned tree covers the value, and `Full` where no row was free, also after those were
-/// freed that could be. Then the pass has no fresh row and no mark.
+/// `Covered` exactly where a point of the pinned tree covers the value, and `Full` only where this call found an owner of each row
+/// after it freed what no other pass may read, of which the pass keeps an evidence. A pass that is alone has then pinned a tree of
+/// nearly half the rows. After a refusal the pass has no fresh row and no mark.
 pub fn build(
     rows: &Rows<NdLaw>,
     pass: &mut Pass<NdLaw>,
@@ -81,8 +92,13 @@ pub fn build(
     requires no_fresh { (known_of pass.old).core.fresh ≡ [] }
     requires no_marks { marked_of pass.old ≡ [] }
     requires idle { work_of pass.old ≡ [] }
+    requires counted { IsCounted (known_of pass.old) (marked_of pass.old) }
     ensures goes { Goes rows.now pass.old pass.new }
     ensures work { work_of pass.new ≡ [] }
+    ensures within { IsWithin (known_of pass.new) }
+    ensures full { result ≡ Err Full → IsShort (known_of pass.new) }
+    ensures crowded { result ≡ Err Full → IsCrowded (known_of pass.new) }
+    ensures same_full { result ≢ Err Full → (known_of pass.new).full ≡ (known_of pass.old).full }
     ensures built { IfOk result (λ b. (n : ℕ) → HasPinnedTree rows.now n pass.old → IsPublishable n point b pass.new) }
     ensures refused { IfErr result (λ _. ((known_of pass.new).core.fresh ≡ []) × (marked_of pass.new ≡ [])) }
     ensures covered { (n : ℕ) → HasPinnedTree rows.now n pass.old → yes_or_no (says_covered result) ≡ nondominated (submissions (take n (seen_of pass.old))) (Covered point.value) }

@@ -10,7 +10,8 @@ ghost use Rattle.nd_rows.specs.Nodes.{Nodes, inner, no_nodes, heads};
 ghost use Rattle.nd_rows.specs.Layout.{IsLinkRow, IsBoxRow};
 ghost use Rattle.nd_update.specs.Insertion.{place_among};
 ghost use Rattle.nd_update.specs.Ways.{HasNode, IsOwned, IsStepped, link_count, touched, touched_box, child_row};
-ghost use Rattle.nd_update.specs.Building.{Does, IsBuilding};
+ghost use Rattle.nd_update.specs.Building.{Does, IsBuilding, Lacks};
+ghost use Rattle.nd_update.specs.Counted.{IsPaid, WasRead};
 ghost use Rattle.nd_update.specs.Left.{IsLeft};
 ghost use Rattle.nd_update.specs.Inserted.{IsInserted};
 ghost use Rattle.nd_update.specs.Updates.{MayUpdate};
@@ -55,11 +56,14 @@ fn grown_box(
 fn copy_node(rows: &Rows<NdLaw>, pass: &mut Pass<NdLaw>, row: u32, first: u64) -> Option<u32>
     requires building { IsBuilding rows.now pass.old }
     requires pinned { (n p : ℕ) × ((known_of pass.old).core.pinned ≡ Some (n, p)) }
+    requires paid { IsPaid 0 (known_of pass.old) (marked_of pass.old) }
     requires row { In row (pinned_copy (known_of pass.old)).rows }
     requires unmarked { times row (marked_of pass.old) ≡ 0 }
+    requires read { WasRead row (known_of pass.old) }
     requires links { (kind : ℕ) × (links : List ℕ) × IsLinkRow (known_words (known_of pass.old)) kind row links × (first ≡ KINDS * length links + kind) × (kind < KINDS) × (length links ≤ 20) }
-    ensures does { MatchOption result (Does rows.now [] [] [] pass.old pass.new) (λ own. Does rows.now (own ∷ []) (row ∷ []) (own ∷ []) pass.old pass.new) }
+    ensures does { MatchOption result (Lacks rows.now pass.old pass.new) (λ own. Does rows.now (own ∷ []) (row ∷ []) (own ∷ []) pass.old pass.new) }
     ensures work { work_of pass.new ≡ work_of pass.old }
+    ensures paid { IfSome result (λ _. IsPaid 0 (known_of pass.new) (marked_of pass.new)) }
     ensures links { IfSome result (λ own. (kind : ℕ) (links : List ℕ) → IsLinkRow (known_words (known_of pass.old)) kind row links → first ≡ KINDS * length links + kind → kind < KINDS → length links ≤ 20
         → IsLinkRow (known_words (known_of pass.new)) kind own links) }
 {
@@ -74,11 +78,14 @@ fn copy_node(rows: &Rows<NdLaw>, pass: &mut Pass<NdLaw>, row: u32, first: u64) -
 fn own_row(rows: &Rows<NdLaw>, pass: &mut Pass<NdLaw>, row: u32, first: u64) -> Option<u32>
     requires building { IsBuilding rows.now pass.old }
     requires pinned { (n p : ℕ) × ((known_of pass.old).core.pinned ≡ Some (n, p)) }
+    requires paid { IsPaid 0 (known_of pass.old) (marked_of pass.old) }
     requires row { IsReadable row (known_of pass.old) }
     requires unmarked { In row (pinned_copy (known_of pass.old)).rows → times row (marked_of pass.old) ≡ 0 }
+    requires read { WasRead row (known_of pass.old) }
     requires links { (kind : ℕ) × (links : List ℕ) × IsLinkRow (known_words (known_of pass.old)) kind row links × (first ≡ KINDS * length links + kind) × (kind < KINDS) × (length links ≤ 20) }
-    ensures owned { MatchOption result (Does rows.now [] [] [] pass.old pass.new) (λ own. (taken marked : List ℕ) × Does rows.now taken marked taken pass.old pass.new × IsOwned (known_of pass.old) row own taken marked) }
+    ensures owned { MatchOption result (Lacks rows.now pass.old pass.new) (λ own. (taken marked : List ℕ) × Does rows.now taken marked taken pass.old pass.new × IsOwned (known_of pass.old) row own taken marked) }
     ensures work { work_of pass.new ≡ work_of pass.old }
+    ensures paid { IfSome result (λ _. IsPaid 0 (known_of pass.new) (marked_of pass.new)) }
     ensures links { IfSome result (λ own. (kind : ℕ) (links : List ℕ) → IsLinkRow (known_words (known_of pass.old)) kind row links → first ≡ KINDS * length links + kind → kind < KINDS → length links ≤ 20
         → IsLinkRow (known_words (known_of pass.new)) kind own links) }
 {
@@ -92,12 +99,14 @@ fn own_row(rows: &Rows<NdLaw>, pass: &mut Pass<NdLaw>, row: u32, first: u64) -> 
 fn own_node(rows: &Rows<NdLaw>, pass: &mut Pass<NdLaw>, row: u32, value: &Vector) -> Option<u32>
     requires building { IsBuilding rows.now pass.old }
     requires pinned { (n p : ℕ) × ((known_of pass.old).core.pinned ≡ Some (n, p)) }
+    requires paid { IsPaid 0 (known_of pass.old) (marked_of pass.old) }
     requires parts { length value.now ≡ rows.now.shape }
     requires node { (ms : Nodes) × HasNode rows.now.shape (known_of pass.old) row ms }
     requires unmarked { In row (pinned_copy (known_of pass.old)).rows → times row (marked_of pass.old) ≡ 0 }
-    ensures owned { MatchOption result (Does rows.now [] [] [] pass.old pass.new)
+    ensures owned { MatchOption result (Lacks rows.now pass.old pass.new)
         (λ own. (taken marked : List ℕ) × Does rows.now taken marked (own ∷ []) pass.old pass.new × IsOwned (known_of pass.old) row own taken marked) }
     ensures work { work_of pass.new ≡ work_of pass.old }
+    ensures paid { IfSome result (λ _. IsPaid 0 (known_of pass.new) (marked_of pass.new)) }
     ensures node { IfSome result (λ own. (ms : Nodes) → HasNode rows.now.shape (known_of pass.old) row ms → HasNode rows.now.shape (known_of pass.new) own (touched own value.now ms)) }
     ensures boxed { IfSome result (λ own. (ms : Nodes) → HasNode rows.now.shape (known_of pass.old) row ms → IsBoxRow rows.now.shape (known_words (known_of pass.new)) own (touched_box value.now ms)) }
 {
@@ -142,14 +151,16 @@ fn step_down(
 ) -> Option<u32>
     requires building { IsBuilding rows.now pass.old }
     requires pinned { (n p : ℕ) × ((known_of pass.old).core.pinned ≡ Some (n, p)) }
+    requires paid { IsPaid 0 (known_of pass.old) (marked_of pass.old) }
     requires fresh { In row (known_of pass.old).core.fresh }
     requires parts { length value.now ≡ rows.now.shape }
     requires node { (b : Box) × (kids : Nodes) × HasNode rows.now.shape (known_of pass.old) row (inner row b kids no_nodes) × (length (heads kids) ≡ count)
         × (In (child_row value.now kids) (pinned_copy (known_of pass.old)).rows → times (child_row value.now kids) (marked_of pass.old) ≡ 0) }
-    ensures does { MatchOption result (Does rows.now [] [] [] pass.old pass.new) (λ own. (taken marked : List ℕ) × Does rows.now taken marked (own ∷ row ∷ []) pass.old pass.new
+    ensures does { MatchOption result (Lacks rows.now pass.old pass.new) (λ own. (taken marked : List ℕ) × Does rows.now taken marked (own ∷ row ∷ []) pass.old pass.new
         × ((b : Box) (kids : Nodes) → HasNode rows.now.shape (known_of pass.old) row (inner row b kids no_nodes) → length (heads kids) ≡ count
         → IsOwned (known_of pass.old) (child_row value.now kids) own taken marked × IsStepped rows.now.shape (known_of pass.new) row b kids value.now own)) }
     ensures work { work_of pass.new ≡ work_of pass.old }
+    ensures paid { IfSome result (λ _. IsPaid 0 (known_of pass.new) (marked_of pass.new)) }
 {
     let place = FIRST_LINK + closest_child(rows, pass, row, count, value);
     let child = read_word(rows, pass, row, place) as u32;
@@ -162,9 +173,10 @@ fn step_down(
 fn insert_below(rows: &Rows<NdLaw>, pass: &mut Pass<NdLaw>, root: u32, point: &Point) -> Option<u32>
     requires building { IsBuilding rows.now pass.old }
     requires pinned { (n p : ℕ) × ((known_of pass.old).core.pinned ≡ Some (n, p)) }
+    requires paid { IsPaid 0 (known_of pass.old) (marked_of pass.old) }
     requires left { (t : Nodes) × MayUpdate rows.now.shape rows.now.rows point.now (pinned_copy (known_of pass.old)) t
         × ((removed : ℕ) × IsLeft rows.now.rows point.now.value rows.now.shape t (known_words (known_of pass.old)) (known_of pass.old).core.fresh (marked_of pass.old) (Some root) removed) }
-    ensures does { (taken marked : List ℕ) × ((changed : List ℕ) × Does rows.now taken marked changed pass.old pass.new) }
+    ensures does { MatchOption result (Lacks rows.now pass.old pass.new) (λ _. (taken marked : List ℕ) × ((changed : List ℕ) × Does rows.now taken marked changed pass.old pass.new)) }
     ensures work { work_of pass.new ≡ work_of pass.old }
     ensures inserted { IfSome result (λ new_root. (t : Nodes) → MayUpdate rows.now.shape rows.now.rows point.now (pinned_copy (known_of pass.old)) t
         → (removed : ℕ) → IsLeft rows.now.rows point.now.value rows.now.shape t (known_words (known_of pass.old)) (known_of pass.old).core.fresh (marked_of pass.old) (Some root) removed
@@ -194,9 +206,10 @@ pub(crate) fn insert(
 ) -> Option<u32>
     requires building { IsBuilding rows.now pass.old }
     requires pinned { (n p : ℕ) × ((known_of pass.old).core.pinned ≡ Some (n, p)) }
+    requires paid { IsPaid 0 (known_of pass.old) (marked_of pass.old) }
     requires left { (t : Nodes) × MayUpdate rows.now.shape rows.now.rows point.now (pinned_copy (known_of pass.old)) t
         × ((removed : ℕ) × IsLeft rows.now.rows point.now.value rows.now.shape t (known_words (known_of pass.old)) (known_of pass.old).core.fresh (marked_of pass.old) root removed) }
-    ensures does { (taken marked : List ℕ) × ((changed : List ℕ) × Does rows.now taken marked changed pass.old pass.new) }
+    ensures does { MatchOption result (Lacks rows.now pass.old pass.new) (λ _. (taken marked : List ℕ) × ((changed : List ℕ) × Does rows.now taken marked changed pass.old pass.new)) }
     ensures work { work_of pass.new ≡ work_of pass.old }
     ensures inserted { IfSome result (λ new_root. (t : Nodes) → MayUpdate rows.now.shape rows.now.rows point.now (pinned_copy (known_of pass.old)) t
         → (removed : ℕ) → IsLeft rows.now.rows point.now.value rows.now.shape t (known_words (known_of pass.old)) (known_of pass.old).core.fresh (marked_of pass.old) root removed

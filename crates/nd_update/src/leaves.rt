@@ -1,14 +1,15 @@
 //! Putting a point into a leaf of the tree that is built.
-ghost use Rattle.std.specs.Prelude.{◌≡◌, ℕ, ◌<◌, ◌≤◌, Some, IfSome, MatchOption, List, [], ◌∷◌, ◌++◌, length, All};
+ghost use Rattle.std.specs.Prelude.{◌≡◌, ℕ, ◌+◌, ◌<◌, ◌≤◌, Some, IfSome, MatchOption, List, [], ◌∷◌, ◌++◌, length, All};
 ghost use Rattle.era_core.specs.Lists.{In};
 ghost use Rattle.era_core.specs.Versions.{look_up};
 ghost use Rattle.era_rows.specs.Known.{known_words};
 ghost use Rattle.nd_rows.specs.declared.layout.TheConstants.{IDEAL, LEAF};
-ghost use Rattle.era_rows.specs.Passes.{known_of, work_of};
+ghost use Rattle.era_rows.specs.Passes.{known_of, marked_of, work_of};
 ghost use Rattle.pls_vectors.specs.Box.{box_of};
 ghost use Rattle.nd_rows.specs.Nodes.{Placed};
 ghost use Rattle.nd_rows.specs.Layout.{IsBoxRow, IsLinkRow, IsPointRow};
-ghost use Rattle.nd_update.specs.Building.{Does, IsBuilding};
+ghost use Rattle.nd_update.specs.Building.{Does, IsBuilding, Lacks};
+ghost use Rattle.nd_update.specs.Counted.{IsPaid};
 ghost use Rattle.nd_update.specs.Insertion.{at_places};
 ghost use Rattle.nd_update.specs.Naming.{IsLeafRow};
 ghost use Rattle.nd_update.specs.FilledLeaves.{HasLinked, AreDivided, IsPut, values_box};
@@ -29,10 +30,10 @@ const FULL: usize = 21;
 pub(crate) fn insert_alone(rows: &Rows<NdLaw>, pass: &mut Pass<NdLaw>, point: &Point) -> Option<u32>
     requires building { IsBuilding rows.now pass.old }
     requires pinned { (n p : ℕ) × ((known_of pass.old).core.pinned ≡ Some (n, p)) }
+    requires paid { IsPaid 0 (known_of pass.old) (marked_of pass.old) }
     requires parts { length point.now.value ≡ rows.now.shape }
-    ensures does { (taken : List ℕ) × Does rows.now taken [] taken pass.old pass.new }
     ensures work { work_of pass.new ≡ work_of pass.old }
-    ensures inserted { IfSome result (λ leaf. (at : ℕ) × Does rows.now (at ∷ leaf ∷ []) [] (at ∷ leaf ∷ []) pass.old pass.new
+    ensures inserted { MatchOption result (Lacks rows.now pass.old pass.new) (λ leaf. (at : ℕ) × Does rows.now (at ∷ leaf ∷ []) [] (at ∷ leaf ∷ []) pass.old pass.new
         × IsPointRow rows.now.shape (known_words (known_of pass.new)) (record { row = at; point = point.now })
         × IsLeafRow rows.now.shape (known_words (known_of pass.new)) leaf (box_of point.now.value) (record { row = at; point = point.now } ∷ [])) }
 {
@@ -55,10 +56,11 @@ fn write_group(
 ) -> Option<u32>
     requires building { IsBuilding rows.now pass.old }
     requires pinned { (n p : ℕ) × ((known_of pass.old).core.pinned ≡ Some (n, p)) }
+    requires paid { IsPaid (rows.now.shape + 2) (known_of pass.old) (marked_of pass.old) }
     requires group { (0 < length group.now) × (length group.now ≤ 20) }
     requires places { All (λ k. k < 21) group.now }
     requires parts { All (λ v. length v ≡ rows.now.shape) values.now }
-    ensures does { MatchOption result (Does rows.now [] [] [] pass.old pass.new) (λ leaf. Does rows.now (leaf ∷ []) [] (leaf ∷ []) pass.old pass.new) }
+    ensures does { MatchOption result (Lacks rows.now pass.old pass.new) (λ leaf. Does rows.now (leaf ∷ []) [] (leaf ∷ []) pass.old pass.new) }
     ensures work { work_of pass.new ≡ work_of pass.old }
     ensures links { IfSome result (λ leaf. IsLinkRow (known_words (known_of pass.new)) LEAF leaf (at_places links.now group.now)) }
     ensures boxed { IfSome result (λ leaf. IsBoxRow rows.now.shape (known_words (known_of pass.new)) leaf (values_box (at_places values.now group.now))) }
@@ -97,13 +99,13 @@ fn divide(
 ) -> Option<()>
     requires building { IsBuilding rows.now pass.old }
     requires pinned { (n p : ℕ) × ((known_of pass.old).core.pinned ≡ Some (n, p)) }
+    requires paid { IsPaid 1 (known_of pass.old) (marked_of pass.old) }
     requires fresh { In row (known_of pass.old).core.fresh }
     requires linked { (placed : List Placed) × HasLinked rows.now.shape (known_of pass.old) row placed × (length placed ≡ 20) }
     requires parts { length value.now ≡ rows.now.shape }
-    ensures does { (leaves : List ℕ) × Does rows.now leaves [] (row ∷ leaves) pass.old pass.new }
     ensures work { work_of pass.new ≡ work_of pass.old }
-    ensures kept { (k : ℕ) → IDEAL ≤ k → look_up (known_words (known_of pass.new)) row k ≡ look_up (known_words (known_of pass.old)) row k }
-    ensures divided { IfSome result (λ _. (leaves : List ℕ) × Does rows.now leaves [] (row ∷ leaves) pass.old pass.new
+    ensures kept { IfSome result (λ _. (k : ℕ) → IDEAL ≤ k → look_up (known_words (known_of pass.new)) row k ≡ look_up (known_words (known_of pass.old)) row k) }
+    ensures divided { MatchOption result (Lacks rows.now pass.old pass.new) (λ _. (leaves : List ℕ) × Does rows.now leaves [] (row ∷ leaves) pass.old pass.new
         × ((placed : List Placed) → HasLinked rows.now.shape (known_of pass.old) row placed → length placed ≡ 20 → (q : Placed) → q.row ≡ at → q.point.value ≡ value.now
         → AreDivided rows.now.shape (known_words (known_of pass.new)) row (placed ++ q ∷ []) leaves)) }
 {
@@ -133,14 +135,14 @@ pub(crate) fn insert_in_leaf(
 ) -> Option<()>
     requires building { IsBuilding rows.now pass.old }
     requires pinned { (n p : ℕ) × ((known_of pass.old).core.pinned ≡ Some (n, p)) }
+    requires paid { IsPaid 0 (known_of pass.old) (marked_of pass.old) }
     requires fresh { In row (known_of pass.old).core.fresh }
     requires linked { (placed : List Placed) × HasLinked rows.now.shape (known_of pass.old) row placed × (length placed ≡ count) }
     requires few { count ≤ 20 }
     requires parts { length point.now.value ≡ rows.now.shape }
-    ensures does { (taken : List ℕ) × Does rows.now taken [] (row ∷ taken) pass.old pass.new }
     ensures work { work_of pass.new ≡ work_of pass.old }
-    ensures kept { (k : ℕ) → IDEAL ≤ k → look_up (known_words (known_of pass.new)) row k ≡ look_up (known_words (known_of pass.old)) row k }
-    ensures put { IfSome result (λ _. (at : ℕ) × (leaves : List ℕ) × Does rows.now (at ∷ leaves) [] (row ∷ at ∷ leaves) pass.old pass.new
+    ensures kept { IfSome result (λ _. (k : ℕ) → IDEAL ≤ k → look_up (known_words (known_of pass.new)) row k ≡ look_up (known_words (known_of pass.old)) row k) }
+    ensures put { MatchOption result (Lacks rows.now pass.old pass.new) (λ _. (at : ℕ) × (leaves : List ℕ) × Does rows.now (at ∷ leaves) [] (row ∷ at ∷ leaves) pass.old pass.new
         × ((placed : List Placed) → HasLinked rows.now.shape (known_of pass.old) row placed → length placed ≡ count
         → IsPut rows.now.shape (known_words (known_of pass.new)) row placed point.now at leaves)) }
 {

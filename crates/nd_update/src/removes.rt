@@ -12,7 +12,8 @@ ghost use Rattle.nd_rows.specs.declared.layout.TheConstants.{FIRST_LINK};
 ghost use Rattle.nd_rows.specs.Layout.{HasWords, IsTreeOf};
 ghost use Rattle.nd_rows.specs.Nodes.{Placed, Nodes, no_nodes, leaf, inner, heads, rows_with, points_of};
 ghost use Rattle.nd_rows.specs.Walk.{HasPlaced};
-ghost use Rattle.nd_update.specs.Building.{Does, IsBuilding};
+ghost use Rattle.nd_update.specs.Building.{Does, Lacks, IsBuilding};
+ghost use Rattle.nd_update.specs.Counted.{IsPaid, WasRead};
 ghost use Rattle.nd_update.specs.Left.{IsLeft, entry, next, AreAllListed, hits, gone_word, is_touched, alive, hits_of, hits_in, IsHitLeaf, IsBoxed, IsNodeLeft, AreKidsLeft};
 ghost use Rattle.nd_update.specs.Naming.{names_of, IsLeafRow, IsInnerRow};
 ghost use Rattle.nd_update.specs.Removal.{staying, going, without_dominated, dropped};
@@ -21,7 +22,7 @@ ghost use mathlib.Core.Option.{some};
 ghost use lib.ListN.{get_elem?};
 
 use crate::takes::take_row;
-use crate::words::{read_box, write_box, write_first, write_word};
+use crate::words::{read_box, read_word, write_box, write_first, write_word};
 use era_core::{KINDS, MOST_ROWS, ROOT_ROWS};
 use era_rows::{Pass, Rows};
 use nd_rows::{FIRST_LINK, INNER, LEAF, NADIR, NdLaw, VALUE, sided, word};
@@ -268,7 +269,9 @@ fn left_of_leaf(
     requires row { In row (pinned_copy (known_of pass.old)).rows }
     requires leaf { (v : List ℤ) × (b : Box) × (placed : List Placed) × IsHitLeaf rows.now.shape (pinned_copy (known_of pass.old)) row count hits.now v b placed }
     requires hit { (hit ≡ hits_in hits.now) × (0 < hit) }
-    ensures does { (taken : List ℕ) × Does rows.now taken [] taken pass.old pass.new }
+    requires paid { IsPaid 0 (known_of pass.old) (marked_of pass.old) }
+    ensures lacks { result ≡ None → Lacks rows.now pass.old pass.new }
+    ensures does { IfSome result (λ _. (taken : List ℕ) × (length taken ≤ 1) × Does rows.now taken [] taken pass.old pass.new) }
     ensures work { work_of pass.new ≡ work_of pass.old }
     ensures left { IfSome result (λ w. (v : List ℤ) (b : Box) (placed : List Placed) → IsHitLeaf rows.now.shape (pinned_copy (known_of pass.old)) row count hits.now v b placed
         → (taken : List ℕ) × Does rows.now taken [] taken pass.old pass.new
@@ -295,12 +298,15 @@ fn settle_leaf(
     requires parts { length value.now ≡ rows.now.shape }
     requires leaf { (b : Box) × (placed : List Placed) × (later : Nodes) × (others : List ℕ) × (removed : ℕ)
         × Settles rows.now value.now (leaf row b placed later) others pass.old removed × (length others ≡ k) × (0 < length placed) }
-    ensures does { (taken marked : List ℕ) × Does rows.now taken marked taken pass.old pass.new }
+    requires paid { IsPaid 0 (known_of pass.old) (marked_of pass.old) }
+    ensures lacks { result ≡ None → Lacks rows.now pass.old pass.new }
+    ensures does { IfSome result (λ _. (taken marked : List ℕ) × Does rows.now taken marked taken pass.old pass.new) }
+    ensures paid { IfSome result (λ _. IsPaid 0 (known_of pass.new) (marked_of pass.new)) }
     ensures settled { IfSome result (λ more. (b : Box) (placed : List Placed) (later : Nodes) (others : List ℕ) (removed : ℕ)
         → Settles rows.now value.now (leaf row b placed later) others pass.old removed → length others ≡ k → 0 < length placed
         → Sweeps rows.now value.now (leaf row b placed later) others pass.new (removed + more)) }
 {
-    let count = (word(rows, pass, row, 0) / KINDS) as u32;
+    let count = (read_word(rows, pass, row, 0) / KINDS) as u32;
     let hits = dominated(rows, pass, row, count, value);
     let hit = count_hits(&hits);
     if hit == 0 {
@@ -382,6 +388,7 @@ fn copy_inner(rows: &Rows<NdLaw>, pass: &mut Pass<NdLaw>, row: u32, from: usize,
     requires boxed { (b : Box) × IsBoxed rows.now.shape (pinned_copy (known_of pass.old)) row b }
     ensures does { Does rows.now [] [] (own ∷ []) pass.old pass.new }
     ensures work { work_of pass.new ≡ work_of pass.old }
+    ensures read { WasRead row (known_of pass.new) }
     ensures inner { (b : Box) (named : Nodes) → IsBoxed rows.now.shape (pinned_copy (known_of pass.old)) row b → alive (drop from (work_of pass.old)) ≡ heads named
         → IsInnerRow rows.now.shape (known_words (known_of pass.new)) own b named }
 {
@@ -403,7 +410,9 @@ fn left_of_inner(rows: &Rows<NdLaw>, pass: &mut Pass<NdLaw>, row: u32, from: usi
     requires few { length (work_of pass.old) ≤ from + 20 }
     requires kids { (v : List ℤ) × (b : Box) × (kids named : Nodes) × IsBoxed rows.now.shape (pinned_copy (known_of pass.old)) row b
         × AreKidsLeft rows.now.rows v rows.now.shape (drop from (work_of pass.old)) kids named (known_words (known_of pass.old)) (known_of pass.old).core.fresh }
-    ensures does { (taken : List ℕ) × Does rows.now taken [] taken pass.old pass.new }
+    requires paid { IsPaid 0 (known_of pass.old) (marked_of pass.old) }
+    ensures lacks { result ≡ None → Lacks rows.now pass.old pass.new }
+    ensures does { IfSome result (λ _. (taken : List ℕ) × (length taken ≤ 1) × (0 < length taken → WasRead row (known_of pass.new)) × Does rows.now taken [] taken pass.old pass.new) }
     ensures work { work_of pass.new ≡ work_of pass.old }
     ensures left { IfSome result (λ w. (v : List ℤ) (b : Box) (kids named : Nodes) → IsBoxed rows.now.shape (pinned_copy (known_of pass.old)) row b
         → AreKidsLeft rows.now.rows v rows.now.shape (drop from (work_of pass.old)) kids named (known_words (known_of pass.old)) (known_of pass.old).core.fresh
@@ -434,7 +443,10 @@ fn settle_inner(
     requires pinned { (n p : ℕ) × ((known_of pass.old).core.pinned ≡ Some (n, p)) }
     requires node { (v : List ℤ) × (b : Box) × (kids later : Nodes) × (others : List ℕ) × (removed : ℕ)
         × Settles rows.now v (inner row b kids later) others pass.old removed × (length others ≡ k) × (weakly_dominates v b.nadir ≡ true) × (length (heads kids) ≡ count) }
-    ensures does { (taken marked : List ℕ) × Does rows.now taken marked taken pass.old pass.new }
+    requires paid { IsPaid 0 (known_of pass.old) (marked_of pass.old) }
+    ensures lacks { result ≡ None → Lacks rows.now pass.old pass.new }
+    ensures does { IfSome result (λ _. (taken marked : List ℕ) × Does rows.now taken marked taken pass.old pass.new) }
+    ensures paid { IfSome result (λ _. IsPaid 0 (known_of pass.new) (marked_of pass.new)) }
     ensures settled { IfSome result (λ _. (v : List ℤ) (b : Box) (kids later : Nodes) (others : List ℕ) (removed : ℕ)
         → Settles rows.now v (inner row b kids later) others pass.old removed → length others ≡ k → weakly_dominates v b.nadir ≡ true → length (heads kids) ≡ count
         → Sweeps rows.now v (inner row b kids later) others pass.new removed) }
@@ -458,7 +470,10 @@ fn settle(rows: &Rows<NdLaw>, pass: &mut Pass<NdLaw>, k: usize, value: &Vector) 
     requires pinned { (n p : ℕ) × ((known_of pass.old).core.pinned ≡ Some (n, p)) }
     requires parts { length value.now ≡ rows.now.shape }
     requires node { (ns : Nodes) × (others : List ℕ) × (removed : ℕ) × Settles rows.now value.now ns others pass.old removed × (length others ≡ k) }
-    ensures does { (taken marked : List ℕ) × Does rows.now taken marked taken pass.old pass.new }
+    requires paid { IsPaid 0 (known_of pass.old) (marked_of pass.old) }
+    ensures lacks { result ≡ None → Lacks rows.now pass.old pass.new }
+    ensures does { IfSome result (λ _. (taken marked : List ℕ) × Does rows.now taken marked taken pass.old pass.new) }
+    ensures paid { IfSome result (λ _. IsPaid 0 (known_of pass.new) (marked_of pass.new)) }
     ensures settled { IfSome result (λ more. (ns : Nodes) (others : List ℕ) (removed : ℕ)
         → Settles rows.now value.now ns others pass.old removed → length others ≡ k
         → Sweeps rows.now value.now ns others pass.new (removed + more)) }
@@ -484,7 +499,9 @@ fn settle_all(rows: &Rows<NdLaw>, pass: &mut Pass<NdLaw>, value: &Vector) -> Opt
     requires listed { (t : Nodes) × (n : ℕ) × IsTreeOf rows.now.shape (pinned_copy (known_of pass.old)) t × AreAllListed value.now t n (work_of pass.old) }
     requires no_fresh { (known_of pass.old).core.fresh ≡ [] }
     requires no_marks { marked_of pass.old ≡ [] }
-    ensures does { (taken marked : List ℕ) × Does rows.now taken marked taken pass.old pass.new }
+    ensures lacks { result ≡ None → Lacks rows.now pass.old pass.new }
+    ensures does { IfSome result (λ _. (taken marked : List ℕ) × Does rows.now taken marked taken pass.old pass.new) }
+    ensures paid { IfSome result (λ _. IsPaid 0 (known_of pass.new) (marked_of pass.new)) }
     ensures swept { IfSome result (λ removed. (t : Nodes) (n : ℕ) → IsTreeOf rows.now.shape (pinned_copy (known_of pass.old)) t → AreAllListed value.now t n (work_of pass.old)
         → Sweeps rows.now value.now t [] pass.new removed) }
 {
@@ -512,7 +529,8 @@ fn root_left(pass: &Pass<NdLaw>) -> Option<u32>
 // What is left, by the only word of the list, where so many points went.
 fn all_left(pass: &Pass<NdLaw>, removed: Option<u32>) -> Option<Left>
     requires { IfSome removed (λ _. 0 < length (work_of pass.now)) }
-    ensures { IfSome result (λ l. (removed ≡ Some l.removed) × ((w : ℕ) → get_elem? (work_of pass.now) 0 ≡ some w → l.root ≡ (if nat_lt w gone_word then Some (w % ROOT_ROWS) else None))) }
+    ensures none { result ≡ None → removed ≡ None }
+    ensures left { IfSome result (λ l. (removed ≡ Some l.removed) × ((w : ℕ) → get_elem? (work_of pass.now) 0 ≡ some w → l.root ≡ (if nat_lt w gone_word then Some (w % ROOT_ROWS) else None))) }
 {
     let removed = removed?;
     let root = root_left(pass);
@@ -520,7 +538,8 @@ fn all_left(pass: &Pass<NdLaw>, removed: Option<u32>) -> Option<Left>
 }
 
 /// What is left of the pinned tree, whose root row is given, without the points that the value weakly dominates. The nodes that
-/// changed are written into fresh rows, and the rows that go are marked. None where no row is free.
+/// changed are written into fresh rows, and the rows that go are marked. None where no row is free, of which the pass then keeps an
+/// evidence.
 pub(crate) fn remove(
     rows: &Rows<NdLaw>,
     pass: &mut Pass<NdLaw>,
@@ -535,7 +554,9 @@ pub(crate) fn remove(
     requires no_fresh { (known_of pass.old).core.fresh ≡ [] }
     requires no_marks { marked_of pass.old ≡ [] }
     requires idle { work_of pass.old ≡ [] }
-    ensures does { (taken marked : List ℕ) × Does rows.now taken marked taken pass.old pass.new }
+    ensures lacks { result ≡ None → Lacks rows.now pass.old pass.new }
+    ensures does { IfSome result (λ _. (taken marked : List ℕ) × Does rows.now taken marked taken pass.old pass.new) }
+    ensures paid { IfSome result (λ _. IsPaid 0 (known_of pass.new) (marked_of pass.new)) }
     ensures work { work_of pass.new ≡ [] }
     ensures left { IfSome result (λ l. (t : Nodes) → IsTreeOf rows.now.shape (pinned_copy (known_of pass.old)) t
         → IsLeft rows.now.rows value.now rows.now.shape t (known_words (known_of pass.new)) (known_of pass.new).core.fresh (marked_of pass.new) l.root l.removed) }

@@ -4,6 +4,7 @@ ghost use Rattle.era_core.specs.declared.sizes.TheConstants.{MOST_ROWS, LAST_VER
 ghost use Rattle.era_rows.specs.declared.sizes.TheConstants.{LEAST_ROWS};
 ghost use Rattle.era_rows.specs.Passes.{known_of, work_of, marked_of, IsPassOf};
 ghost use Rattle.nd_update.specs.Built.{IsPublishable};
+ghost use Rattle.nd_update.specs.Counted.{IsCounted};
 ghost use Rattle.nd_update.specs.Resting.{IsAtRest, IsOpen};
 
 use crate::takes::give_all_back;
@@ -36,6 +37,7 @@ fn start(alloc: Global, objectives: u8, rows: u32) -> Result<(Rows<NdLaw>, Pass<
 fn open(rows: &Rows<NdLaw>, pass: &mut Pass<NdLaw>) -> u64
     requires rest { IsAtRest rows.now pass.old }
     ensures open { IsOpen rows.now result pass.new }
+    ensures counted { IsCounted (known_of pass.new) (marked_of pass.new) }
     ensures low { result ≤ LAST_VERSION }
 {
     rows.pin(pass).0

@@ -10,6 +10,7 @@ ghost use Rattle.pls_vectors.specs.Dominance.{weakly_dominates};
 ghost use Rattle.nd_rows.specs.declared.layout.TheConstants.{FIRST_LINK, IDEAL, NADIR, VALUE, SOL_WORDS, PARTS};
 ghost use Rattle.nd_rows.specs.Layout.{HasWords, HasValue, IsBoxRow, IsPointRow};
 ghost use Rattle.nd_update.specs.Building.{Does, IsBuilding, Outside};
+ghost use Rattle.nd_update.specs.Counted.{WasRead};
 
 use era_core::KINDS;
 use era_rows::{Pass, Rows};
@@ -27,6 +28,7 @@ pub(crate) fn read_word(rows: &Rows<NdLaw>, pass: &mut Pass<NdLaw>, row: u32, pl
     ensures does { Does rows.now [] [] [] pass.old pass.new }
     ensures work { work_of pass.new ≡ work_of pass.old }
     ensures word { (w : ℕ) → look_up (known_words (known_of pass.old)) row place ≡ Some w → result ≡ w }
+    ensures read { WasRead row (known_of pass.new) }
 {
     rows.read(pass, row, place)
 }
@@ -40,6 +42,7 @@ pub(crate) fn read_value(rows: &Rows<NdLaw>, pass: &mut Pass<NdLaw>, row: u32, p
     ensures does { Does rows.now [] [] [] pass.old pass.new }
     ensures work { work_of pass.new ≡ work_of pass.old }
     ensures value { (v : List ℤ) → HasValue rows.now.shape (known_words (known_of pass.old)) row place v → result ≡ v }
+    ensures read { 0 < rows.now.shape → WasRead row (known_of pass.new) }
 {
     let mut parts = [0; 4];
     let len = rows.shape() as usize;
@@ -58,6 +61,7 @@ pub(crate) fn read_box(rows: &Rows<NdLaw>, pass: &mut Pass<NdLaw>, row: u32) -> 
     ensures does { Does rows.now [] [] [] pass.old pass.new }
     ensures work { work_of pass.new ≡ work_of pass.old }
     ensures boxed { (b : Box) → IsBoxRow rows.now.shape (known_words (known_of pass.old)) row b → IsTrue (weakly_dominates b.ideal b.nadir) → result ≡ b }
+    ensures read { 0 < rows.now.shape → WasRead row (known_of pass.new) }
 {
     let ideal = read_value(rows, pass, row, IDEAL);
     let nadir = read_value(rows, pass, row, NADIR);

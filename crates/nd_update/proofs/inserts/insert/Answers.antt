@@ -1,4 +1,4 @@
-use Rattle.std.proofs.Common.{◌≡◌, ℕ, IfSome, Some, sym, subst}
+use Rattle.std.proofs.Common.{◌≡◌, ℕ, IfSome, Some, [], ◌∷◌, sym, subst}
 use Rattle.era_rows.specs.Known.{pinned_copy, known_words}
 use Rattle.era_rows.specs.Passes.{known_of, marked_of}
 use Rattle.nd_rows.specs.Nodes.{Nodes}
@@ -6,13 +6,17 @@ use Rattle.nd_update.specs.Updates.{MayUpdate}
 use Rattle.nd_update.specs.Left.{IsLeft}
 use Rattle.nd_update.specs.Inserted.{IsInserted}
 use Rattle.nd_update.proofs.Alone.{inserted_alone}
-use Rattle.nd_update.proofs.Filling.{if_some}
+use Rattle.nd_update.proofs.Filling.{match_both}
 use Rattle.nd_update.proofs.inserts.insert.Goals as goal
+
+pub returns-in-None-clause-does : goal.returns-in-None-clause-does
+returns-in-None-clause-does c =
+    match_both c.insert_alone.result _ _ _ _ (λ lacks. lacks) (λ leaf is. (is.0 ∷ leaf ∷ [], [], (is.0 ∷ leaf ∷ [], is.1))) c.insert_alone.ensures.inserted
 
 pub returns-in-None-clause-inserted : goal.returns-in-None-clause-inserted
 returns-in-None-clause-inserted c =
     let r = c.args.rows.now in
-    if_some c.insert_alone.result _ _
+    match_both c.insert_alone.result _ _ _ _ (λ lacks. tt)
     (λ leaf is t may removed is_left. inserted_alone r r.shape c.args.point.now c.args.pass.now c.insert_alone.new.pass leaf is.0 is.1 is.2 is.3 t removed c.args.root c.in-None.is is_left)
     c.insert_alone.ensures.inserted
 

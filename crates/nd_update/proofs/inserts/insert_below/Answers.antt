@@ -5,9 +5,11 @@ use Rattle.era_rows.specs.Known.{pinned_copy}
 use Rattle.era_rows.specs.Passes.{known_of}
 use Rattle.nd_update.specs.Updates.{MayUpdate}
 use Rattle.nd_update.proofs.Beginning.{left_node, root_unmarked, begins, node_low}
-use Rattle.nd_update.proofs.Building.{does_both, read_does, still_fresh, still_pinned}
+use Rattle.nd_update.proofs.Building.{does_both, does_read, read_does, still_fresh, still_pinned}
 use Rattle.nd_update.proofs.Focusing.{owned_fresh, count_low, leaf_has, child_has, stepped_fresh, stepped_on, ended}
+use Rattle.nd_update.proofs.Lacking.{does_lacks}
 use Rattle.nd_update.proofs.Landed.{landed_at}
+use Rattle.nd_update.proofs.Paying.{paid_still}
 use Rattle.nd_update.proofs.Owning.{match_none}
 use Rattle.nd_update.proofs.inserts.insert_below.Goals as goal
 
@@ -23,6 +25,9 @@ own_node-requires-clause-unmarked c =
     let r = c.args.rows.now in
     root_unmarked r r.shape c.args.point.now c.args.pass.now c.requires.building left.0 left.1 left.2.0 c.args.root left.2.1
 
+pub returns-in_err-own-clause-does : goal.returns-in_err-own-clause-does
+returns-in_err-own-clause-does c = match_none c.from_residual.result _ _ c.from_residual.ensures c.in_err-own.ensures.owned
+
 pub loop-stepped-init : goal.loop-stepped-init
 loop-stepped-init c =
     let r = c.args.rows.now in
@@ -31,6 +36,7 @@ loop-stepped-init c =
     let own = c.in_ok-own.own in
     let owned = c.in_ok-own.ensures.owned in record {
       work = c.own_node.ensures.work;
+      paid = c.in_ok-own.ensures.paid;
       mine = owned_fresh r c.args.root own owned.0 owned.1 (own ∷ []) p q owned.2 owned.3;
       does = (owned.0, owned.1, own ∷ [], owned.2);
       at = λ t may removed is_left.
@@ -62,35 +68,32 @@ insert_in_leaf-requires-clause-linked c =
     let at = c.loop-stepped.invariant.at left.0 left.1 left.2.0 left.2.1 in
     leaf_has r r.shape c.args.point.now left.0 c.loop-stepped.pass c.read_word-first.new.pass c.read_word-first.ensures.does c.loop-stepped.row c.in_ok-own.own c.loop-stepped.stepped c.read_word-first.result c.read_word-first.ensures.word at c.if-first-eq-LEAF.true
 
+pub insert_in_leaf-requires-clause-paid : goal.insert_in_leaf-requires-clause-paid
+insert_in_leaf-requires-clause-paid c =
+    paid_still c.args.rows.now 0 [] [] c.loop-stepped.pass c.read_word-first.new.pass c.loop-stepped.invariant.does.3.building c.read_word-first.ensures.does c.loop-stepped.invariant.paid
+
 pub returns-in_err-insert_in_leaf-clause-does : goal.returns-in_err-insert_in_leaf-clause-does
 returns-in_err-insert_in_leaf-clause-does c =
     let r = c.args.rows.now in
     let so_far = c.loop-stepped.invariant.does in
-    let put = c.insert_in_leaf.ensures.does in
-    let row = c.loop-stepped.row in (
-      so_far.0 ++ put.0,
-      so_far.1 ++ [],
-      (
-        so_far.2 ++ row ∷ put.0,
-        does_both r so_far.0 so_far.1 so_far.2 put.0 [] (row ∷ put.0) c.args.pass.now c.loop-stepped.pass c.insert_in_leaf.new.pass so_far.3
-            (read_does r put.0 [] (row ∷ put.0) c.loop-stepped.pass c.read_word-first.new.pass c.insert_in_leaf.new.pass c.read_word-first.ensures.does put.1),
-      ),
-    )
+    let q = c.read_word-first.new.pass in
+    let read = does_read r so_far.0 so_far.1 so_far.2 c.args.pass.now c.loop-stepped.pass q so_far.3 c.read_word-first.ensures.does in
+    match_none c.from_residual-in_err-insert_in_leaf.result _ _ c.from_residual-in_err-insert_in_leaf.ensures (does_lacks r so_far.0 so_far.1 so_far.2 c.args.pass.now q c.insert_in_leaf.new.pass read c.in_err-insert_in_leaf.ensures.put)
 
 pub returns-then-first-eq-LEAF-clause-does : goal.returns-then-first-eq-LEAF-clause-does
 returns-then-first-eq-LEAF-clause-does c =
     let r = c.args.rows.now in
     let so_far = c.loop-stepped.invariant.does in
-    let put = c.insert_in_leaf.ensures.does in
-    let row = c.loop-stepped.row in (
-      so_far.0 ++ put.0,
-      so_far.1 ++ [],
-      (
-        so_far.2 ++ row ∷ put.0,
-        does_both r so_far.0 so_far.1 so_far.2 put.0 [] (row ∷ put.0) c.args.pass.now c.loop-stepped.pass c.insert_in_leaf.new.pass so_far.3
-            (read_does r put.0 [] (row ∷ put.0) c.loop-stepped.pass c.read_word-first.new.pass c.insert_in_leaf.new.pass c.read_word-first.ensures.does put.1),
-      ),
-    )
+    let q = c.read_word-first.new.pass in
+    let read = does_read r so_far.0 so_far.1 so_far.2 c.args.pass.now c.loop-stepped.pass q so_far.3 c.read_word-first.ensures.does in
+    let put = c.in_ok-insert_in_leaf.ensures.put in
+    let taken = put.0 ∷ put.1 in
+    let changed = c.loop-stepped.row ∷ taken in
+    (so_far.0 ++ taken, so_far.1 ++ [], (so_far.2 ++ changed, does_both r so_far.0 so_far.1 so_far.2 taken [] changed c.args.pass.now q c.insert_in_leaf.new.pass read put.2))
+
+pub step_down-requires-clause-paid : goal.step_down-requires-clause-paid
+step_down-requires-clause-paid c =
+    paid_still c.args.rows.now 0 [] [] c.loop-stepped.pass c.read_word-first.new.pass c.loop-stepped.invariant.does.3.building c.read_word-first.ensures.does c.loop-stepped.invariant.paid
 
 pub step_down-requires-clause-node : goal.step_down-requires-clause-node
 step_down-requires-clause-node c =
@@ -107,15 +110,10 @@ step_down-requires-clause-node c =
 pub returns-in_err-row-clause-does : goal.returns-in_err-row-clause-does
 returns-in_err-row-clause-does c =
     let r = c.args.rows.now in
-    let so_far = c.loop-stepped.invariant.does in (
-      so_far.0 ++ [],
-      so_far.1 ++ [],
-      (
-        so_far.2 ++ [],
-        does_both r so_far.0 so_far.1 so_far.2 [] [] [] c.args.pass.now c.loop-stepped.pass c.step_down.new.pass so_far.3
-            (does_both r [] [] [] [] [] [] c.loop-stepped.pass c.read_word-first.new.pass c.step_down.new.pass c.read_word-first.ensures.does c.in_err-row.ensures.does),
-      ),
-    )
+    let so_far = c.loop-stepped.invariant.does in
+    let q = c.read_word-first.new.pass in
+    let read = does_read r so_far.0 so_far.1 so_far.2 c.args.pass.now c.loop-stepped.pass q so_far.3 c.read_word-first.ensures.does in
+    match_none c.from_residual-in_err-row.result _ _ c.from_residual-in_err-row.ensures (does_lacks r so_far.0 so_far.1 so_far.2 c.args.pass.now q c.step_down.new.pass read c.in_err-row.ensures.does)
 
 pub loop-stepped-preserved : goal.loop-stepped-preserved
 loop-stepped-preserved c =
@@ -131,6 +129,7 @@ loop-stepped-preserved c =
     let did = c.in_ok-row.ensures.does in
     let mine = still_fresh r [] [] [] p q read row c.loop-stepped.invariant.mine in record {
       work = c.step_down.ensures.work ∙ c.read_word-first.ensures.work ∙ c.loop-stepped.invariant.work;
+      paid = c.in_ok-row.ensures.paid;
       mine =
           stepped_fresh r r.shape c.args.point.now left.0 p q read row c.in_ok-own.own c.loop-stepped.stepped c.read_word-first.result c.read_word-first.ensures.word (c.loop-stepped.invariant.at left.0 left.1 left.2.0 left.2.1) c.if-first-eq-LEAF.false s own did.0 did.1 did.2 did.3;
       does = (
@@ -154,4 +153,4 @@ returns-then-first-eq-LEAF-clause-inserted c t may removed is_left =
     let r = c.args.rows.now in
     let put = c.in_ok-insert_in_leaf.ensures.put in
     landed_at r r.shape c.args.point.now t c.loop-stepped.pass c.read_word-first.new.pass c.read_word-first.ensures.does c.loop-stepped.row c.in_ok-own.own c.loop-stepped.stepped c.read_word-first.result c.read_word-first.ensures.word
-    (c.loop-stepped.invariant.at t may removed is_left) c.if-first-eq-LEAF.true c.insert_in_leaf.new.pass put.0 put.1 put.2 may.some may.few may.parts put.3 c.insert_in_leaf.ensures.kept
+    (c.loop-stepped.invariant.at t may removed is_left) c.if-first-eq-LEAF.true c.insert_in_leaf.new.pass put.0 put.1 put.2 may.some may.few may.parts put.3 c.in_ok-insert_in_leaf.ensures.kept

@@ -4,6 +4,7 @@ use Rattle.era_rows.specs.Known.{pinned_copy, known_words}
 use Rattle.era_rows.specs.Passes.{known_of, marked_of, work_of}
 use Rattle.nd_rows.specs.Nodes.{Nodes}
 use Rattle.nd_update.specs.Building.{Does}
+use Rattle.nd_update.specs.Counted.{IsPaid}
 use Rattle.nd_update.specs.Left.{IsLeft}
 use Rattle.nd_update.specs.Updates.{MayUpdate}
 use Rattle.nd_update.proofs.Descending.{IsAt}
@@ -13,6 +14,7 @@ use Rattle.nd_update.proofs.inserts.insert_below.Given as goal
 abbrev pub invariant-loop-stepped : goal.invariant-loop-stepped
 invariant-loop-stepped l = record {
   work : work_of l.pass ≡ work_of l.fn.pass;
+  paid : IsPaid 0 (known_of l.pass) (marked_of l.pass);
   mine : In l.row (known_of l.pass).core.fresh;
   does : (taken marked : List ℕ) × (changed : List ℕ) × Does l.rows taken marked changed l.fn.pass l.pass;
   at : (t : Nodes) → MayUpdate l.rows.shape l.rows.rows l.point (pinned_copy (known_of l.fn.pass)) t

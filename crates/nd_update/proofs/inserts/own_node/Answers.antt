@@ -6,6 +6,8 @@ use Rattle.era_rows.specs.Passes.{known_of, marked_of}
 use Rattle.nd_rows.specs.Layout.{IsBoxRow}
 use Rattle.nd_update.specs.Ways.{IsOwned, touched_box}
 use Rattle.nd_update.proofs.Building.{does_both, read_does, still_fresh}
+use Rattle.nd_update.proofs.Lacking.{does_lacks}
+use Rattle.nd_update.proofs.Paying.{still_read, paid_still}
 use Rattle.nd_update.proofs.Touching.{node_still, corners_long}
 use Rattle.nd_update.proofs.Owning.{match_none, node_readable, node_count, node_links, node_grown, own_fresh, own_does, own_node_is, owned_same, unmarked_still}
 use Rattle.nd_update.proofs.inserts.own_node.Goals as goal
@@ -22,6 +24,12 @@ grown_box-range-requires-clause-node c =
       node_count c.args.rows.now.shape (known_of c.args.pass.now) c.args.row ms c.read_word-first.result has c.read_word-first.ensures.word,
     )
 
+pub own_row-requires-clause-paid : goal.own_row-requires-clause-paid
+own_row-requires-clause-paid c =
+    let r = c.args.rows.now in
+    let read = does_both r [] [] [] [] [] [] c.args.pass.now c.read_word-first.new.pass c.grown_box-range.new.pass c.read_word-first.ensures.does c.grown_box-range.ensures.does in
+    paid_still r 0 [] [] c.args.pass.now c.grown_box-range.new.pass c.requires.building read c.requires.paid
+
 pub own_row-requires-clause-row : goal.own_row-requires-clause-row
 own_row-requires-clause-row c =
     let r = c.args.rows.now in
@@ -35,6 +43,10 @@ own_row-requires-clause-unmarked c here =
     let read = does_both r [] [] [] [] [] [] c.args.pass.now c.read_word-first.new.pass c.grown_box-range.new.pass c.read_word-first.ensures.does c.grown_box-range.ensures.does in
     unmarked_still r c.args.pass.now c.grown_box-range.new.pass read c.args.row c.requires.unmarked here
 
+pub own_row-requires-clause-read : goal.own_row-requires-clause-read
+own_row-requires-clause-read c =
+    still_read c.args.rows.now [] [] [] c.read_word-first.new.pass c.grown_box-range.new.pass c.read_word-first.ensures.does.building c.grown_box-range.ensures.does c.args.row c.read_word-first.ensures.read
+
 pub own_row-requires-clause-links : goal.own_row-requires-clause-links
 own_row-requires-clause-links c =
     let r = c.args.rows.now in
@@ -47,7 +59,7 @@ pub returns-in_err-own-clause-owned : goal.returns-in_err-own-clause-owned
 returns-in_err-own-clause-owned c =
     let r = c.args.rows.now in
     let read = does_both r [] [] [] [] [] [] c.args.pass.now c.read_word-first.new.pass c.grown_box-range.new.pass c.read_word-first.ensures.does c.grown_box-range.ensures.does in
-    match_none c.from_residual.result _ _ c.from_residual.ensures (does_both r [] [] [] [] [] [] c.args.pass.now c.grown_box-range.new.pass c.own_row.new.pass read c.in_err-own.ensures.owned)
+    match_none c.from_residual.result _ _ c.from_residual.ensures (does_lacks r [] [] [] c.args.pass.now c.grown_box-range.new.pass c.own_row.new.pass read c.in_err-own.ensures.owned)
 
 pub write_box-requires-clause-fresh : goal.write_box-requires-clause-fresh
 write_box-requires-clause-fresh c =
@@ -75,6 +87,10 @@ returns-clause-owned c =
           (own_does r c.args.row own owned.0 owned.1 c.grown_box-range.new.pass c.own_row.new.pass owned.2 owned.3 c.write_box.new.pass c.write_box.ensures.does),
       owned_same r c.args.pass.now c.grown_box-range.new.pass read c.args.row own owned.0 owned.1 owned.3,
     )
+
+pub returns-clause-paid : goal.returns-clause-paid
+returns-clause-paid c =
+    paid_still c.args.rows.now 0 [] (c.in_ok-own.own ∷ []) c.own_row.new.pass c.write_box.new.pass c.in_ok-own.ensures.owned.2.building c.write_box.ensures.does c.in_ok-own.ensures.paid
 
 pub returns-clause-node : goal.returns-clause-node
 returns-clause-node c ms has =

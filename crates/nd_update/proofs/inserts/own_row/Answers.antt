@@ -3,7 +3,8 @@ use Rattle.era_core.specs.Lists.{In}
 use Rattle.era_rows.proofs.Flags.{from_in}
 use Rattle.era_rows.specs.Passes.{known_of}
 use Rattle.nd_update.proofs.Building.{does_none}
-use Rattle.nd_update.proofs.Owning.{match_some, not_fresh, not_fresh_pinned, readable_row}
+use Rattle.nd_update.proofs.Filling.{match_both}
+use Rattle.nd_update.proofs.Owning.{not_fresh, not_fresh_pinned, readable_row}
 use Rattle.nd_update.proofs.inserts.own_row.Goals as goal
 
 pub is_fresh-requires-clause-row : goal.is_fresh-requires-clause-row
@@ -21,5 +22,5 @@ copy_node-requires-clause-unmarked c = c.requires.unmarked (not_fresh_pinned (kn
 
 pub returns-clause-owned : goal.returns-clause-owned
 returns-clause-owned c =
-    match_some c.copy_node.result _ _ _
+    match_both c.copy_node.result _ _ _ _ (λ lacks. lacks)
     (λ own does. (own ∷ [], c.args.row ∷ [], does, inr (not_fresh c.args.row (known_of c.args.pass.now).core.fresh (sym c.is_fresh.ensures ∙ c.if-is_fresh.false), refl, refl))) c.copy_node.ensures.does

@@ -11,6 +11,8 @@ use Rattle.nd_update.proofs.Building.{does_both, read_does, still_fresh}
 use Rattle.nd_update.proofs.FullLeaves.{readable_low}
 use Rattle.nd_update.proofs.Choosing.{child_word, child_readable, child_node}
 use Rattle.nd_update.proofs.Linking.{link_does, link_stepped}
+use Rattle.nd_update.proofs.Lacking.{does_lacks}
+use Rattle.nd_update.proofs.Paying.{paid_still}
 use Rattle.nd_update.proofs.Owning.{match_none, unmarked_still, owned_same}
 use Rattle.nd_update.proofs.Touching.{node_still}
 use Rattle.nd_update.proofs.inserts.step_down.Goals as goal
@@ -26,6 +28,12 @@ overflow_cast-child c =
     let is = c.read_word-child.ensures.word _ (c.closest_child-place.ensures.does.elsewhere c.args.row (FIRST_LINK + k) refl ∙ child_word r.shape (known_of c.args.pass.now) c.args.row b kids has k low) in
     let few = readable_low r c.args.pass.now c.requires.building _ (child_readable r.shape (known_of c.args.pass.now) c.args.row b kids has k low) in
     omega (arith, is, few)
+
+pub own_node-requires-clause-paid : goal.own_node-requires-clause-paid
+own_node-requires-clause-paid c =
+    let r = c.args.rows.now in
+    let read = does_both r [] [] [] [] [] [] c.args.pass.now c.closest_child-place.new.pass c.read_word-child.new.pass c.closest_child-place.ensures.does c.read_word-child.ensures.does in
+    paid_still r 0 [] [] c.args.pass.now c.read_word-child.new.pass c.requires.building read c.requires.paid
 
 pub own_node-requires-clause-node : goal.own_node-requires-clause-node
 own_node-requires-clause-node c =
@@ -61,7 +69,7 @@ pub returns-in_err-own-clause-does : goal.returns-in_err-own-clause-does
 returns-in_err-own-clause-does c =
     let r = c.args.rows.now in
     let read = does_both r [] [] [] [] [] [] c.args.pass.now c.closest_child-place.new.pass c.read_word-child.new.pass c.closest_child-place.ensures.does c.read_word-child.ensures.does in
-    match_none c.from_residual.result _ _ c.from_residual.ensures (does_both r [] [] [] [] [] [] c.args.pass.now c.read_word-child.new.pass c.own_node.new.pass read c.in_err-own.ensures.owned)
+    match_none c.from_residual.result _ _ c.from_residual.ensures (does_lacks r [] [] [] c.args.pass.now c.read_word-child.new.pass c.own_node.new.pass read c.in_err-own.ensures.owned)
 
 pub write_word-requires-clause-fresh : goal.write_word-requires-clause-fresh
 write_word-requires-clause-fresh c =
@@ -97,3 +105,7 @@ returns-clause-does c =
                 (c.in_ok-own.ensures.node (at_node kids k) node),
           ),
     )
+
+pub returns-clause-paid : goal.returns-clause-paid
+returns-clause-paid c =
+    paid_still c.args.rows.now 0 [] (c.args.row ∷ []) c.own_node.new.pass c.write_word.new.pass c.in_ok-own.ensures.owned.2.building c.write_word.ensures.does c.in_ok-own.ensures.paid

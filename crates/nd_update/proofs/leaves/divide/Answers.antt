@@ -4,7 +4,7 @@ use Rattle.era_core.specs.declared.sizes.TheConstants.{KINDS}
 use Rattle.era_core.specs.Lists.{In}
 use Rattle.era_core.specs.Versions.{look_up}
 use Rattle.era_rows.specs.Known.{known_words}
-use Rattle.era_rows.specs.Passes.{known_of, IsReadable}
+use Rattle.era_rows.specs.Passes.{known_of, marked_of, IsReadable}
 use Rattle.pls_archive.specs.Lists.{Every}
 use Rattle.nd_rows.specs.declared.layout.TheConstants.{INNER, FIRST_LINK, VALUE}
 use Rattle.nd_rows.specs.Nodes.{Placed, rows_with}
@@ -12,9 +12,12 @@ use Rattle.nd_rows.specs.Layout.{HasValue}
 use Rattle.nd_tree.specs.Split.{split}
 use Rattle.nd_update.specs.Insertion.{values_with}
 use Rattle.nd_update.specs.FilledLeaves.{AreGroupLeaves}
-use Rattle.nd_update.proofs.Building.{does_both, does_wider, does_read, does_write, still_fresh, still_readable}
+use Rattle.nd_update.proofs.Building.{does_both, does_wider, does_write, still_fresh, still_readable}
 use Rattle.nd_update.proofs.Filling.{first_row, rows_push}
-use Rattle.nd_update.proofs.FullLeaves.{put_next, put_all, every_get, readable_low, link_word, link_readable, link_value, all_long, all_uniform, values_push, groups_does, groups_link, groups_kept, groups_next, groups_few, groups_count, value_read, long_push, done_does, done_groups}
+use Rattle.nd_update.proofs.FullLeaves.{put_next, put_all, every_get, readable_low, link_word, link_readable, link_value, all_long, all_uniform, values_push, groups_does, groups_link, groups_kept, groups_next, groups_few, groups_are, groups_count, value_read, long_push, done_does, done_groups}
+use Rattle.nd_update.proofs.Lacking.{does_lacks}
+use Rattle.nd_update.proofs.Owning.{match_none}
+use Rattle.nd_update.proofs.Paying.{paid_more, paid_still, paid_took}
 use Rattle.nd_update.proofs.leaves.divide.Goals as goal
 
 pub overflow_cast-link : goal.overflow_cast-link
@@ -92,6 +95,7 @@ loop-g-init c =
     let row = c.args.row in
     record {
       work = c.loop-k.invariant.work;
+      paid = paid_still r 1 [] [] c.args.pass.now c.loop-k.pass c.requires.building c.loop-k.invariant.does c.requires.paid;
       kept = λ k high. c.loop-k.invariant.does.elsewhere row k refl;
       written = ([], refl, does_wider r [] [] [] (row ∷ []) c.args.pass.now c.loop-k.pass (λ x here. absurd (let none : In x [] = here in omega arith)) c.loop-k.invariant.does, tt, λ placed rows values. tt);
     }
@@ -109,6 +113,19 @@ write_group-requires-clause-group c =
     subst (λ ks. (0 < length ks) × (length ks ≤ 20)) (sym c.group.ensures)
     (every_get (λ ks. (0 < length ks) × (length ks ≤ 20)) c.split-groups.result c.loop-g.g [] low (subst (Every (λ ks. (0 < length ks) × (length ks ≤ 20))) (sym c.split-groups.ensures.value) few))
 
+pub write_group-requires-clause-paid : goal.write_group-requires-clause-paid
+write_group-requires-clause-paid c =
+    let r = c.args.rows.now in
+    let placed = c.requires.linked.0 in
+    let has = c.requires.linked.1 in
+    let long = c.requires.linked.2 in
+    let done : c.loop-k.k ≡ 20 = omega (arith, c.loop-k-test.false, c.loop-k.auto.k-end) in
+    let values = put_all (values_with placed) c.loop-k.values c.loop-k.k c.args.value.now done (length-map placed (λ (p : Placed). p.point.value) ∙ long) (c.loop-k.invariant.read placed has long).1 in
+    let are : length c.split-groups.result ≡ r.shape + 1 =
+    ap length c.split-groups.ensures.value ∙ groups_are r.shape (known_words (known_of c.args.pass.now)) placed has.points long c.args.value.now c.requires.parts c.loop-k.values values in
+    let low : c.loop-g.g < length c.split-groups.result = omega (arith, c.loop-g-test.true, c.count-g-end.ensures) in
+    paid_more (c.loop-g.g + 1) (r.shape + 2) (known_of c.loop-g.pass) (marked_of c.loop-g.pass) (omega (arith, are, low)) c.loop-g.invariant.paid
+
 pub write_group-requires-clause-parts : goal.write_group-requires-clause-parts
 write_group-requires-clause-parts c =
     let r = c.args.rows.now in
@@ -119,10 +136,11 @@ write_group-requires-clause-parts c =
     let values = put_all (values_with placed) c.loop-k.values c.loop-k.k c.args.value.now done (length-map placed (λ (p : Placed). p.point.value) ∙ long) (c.loop-k.invariant.read placed has long).1 in
     λ k e low. every_get (λ v. length v ≡ r.shape) c.loop-k.values k e low (all_long r.shape (known_words (known_of c.args.pass.now)) placed has.points long c.args.value.now c.requires.parts c.loop-k.values values)
 
-pub returns-in_err-leaf-clause-does : goal.returns-in_err-leaf-clause-does
-returns-in_err-leaf-clause-does c =
+pub returns-in_err-leaf-clause-divided : goal.returns-in_err-leaf-clause-divided
+returns-in_err-leaf-clause-divided c =
     let written = c.loop-g.invariant.written in
-    (written.0, does_read c.args.rows.now written.0 [] (c.args.row ∷ written.0) c.args.pass.now c.loop-g.pass c.write_group.new.pass written.2 c.in_err-leaf.ensures.does)
+    match_none c.from_residual.result _ _ c.from_residual.ensures
+    (does_lacks c.args.rows.now written.0 [] (c.args.row ∷ written.0) c.args.pass.now c.loop-g.pass c.write_group.new.pass written.2 c.in_err-leaf.ensures.does)
 
 pub write_word-requires-clause-fresh : goal.write_word-requires-clause-fresh
 write_word-requires-clause-fresh c =
@@ -155,6 +173,7 @@ loop-g-preserved c =
     let low : g < length c.split-groups.result = omega (arith, c.loop-g-test.true, c.count-g-end.ensures) in
     record {
       work = c.write_word.ensures.work ∙ c.in_ok-leaf.ensures.work ∙ inv.work;
+      paid = paid_still r (g + 1 + 1) [] (row ∷ []) s u wrote.building linked (paid_took r (g + 1) leaf [] (leaf ∷ []) q s written.2.building wrote inv.paid);
       kept = groups_kept r row leaves leaf p q s u written.2 wrote linked c.requires.fresh (FIRST_LINK + g) (omega (arith, low, few)) inv.kept c.write_word.ensures.outside;
       written = (
         leaves ++ leaf ∷ [],
@@ -182,13 +201,6 @@ overflow_cast-count c =
 pub write_first-requires-clause-fresh : goal.write_first-requires-clause-fresh
 write_first-requires-clause-fresh c =
     let written = c.loop-g.invariant.written in still_fresh c.args.rows.now written.0 [] (c.args.row ∷ written.0) c.args.pass.now c.loop-g.pass written.2 c.args.row c.requires.fresh
-
-pub returns-clause-does : goal.returns-clause-does
-returns-clause-does c =
-    let r = c.args.rows.now in
-    let row = c.args.row in
-    let written = c.loop-g.invariant.written in
-    (written.0, done_does r row written.0 c.args.pass.now c.loop-g.pass c.write_first.new.pass written.2 c.write_first.ensures.does)
 
 pub returns-clause-divided : goal.returns-clause-divided
 returns-clause-divided c =

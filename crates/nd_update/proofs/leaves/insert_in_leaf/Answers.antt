@@ -3,19 +3,33 @@ use Rattle.era_core.specs.declared.sizes.TheConstants.{KINDS}
 use Rattle.era_core.specs.Versions.{look_up}
 use Rattle.era_core.proofs.ListFacts.{in_head}
 use Rattle.era_rows.specs.Known.{known_words}
-use Rattle.era_rows.specs.Passes.{known_of}
+use Rattle.era_rows.specs.Passes.{known_of, marked_of}
 use Rattle.nd_rows.specs.declared.layout.TheConstants.{LEAF, FIRST_LINK, IDEAL}
 use Rattle.nd_rows.specs.Nodes.{Placed}
 use Rattle.nd_update.specs.Building.{Outside}
 use Rattle.nd_update.proofs.Building.{now_fresh, still_fresh, writes_both}
-use Rattle.nd_update.proofs.Filling.{if_some, row_fresh, linked_on, put_does, put_kept, put_fits, put_full, leaf_row}
+use Rattle.nd_update.proofs.Filling.{match_both, point_does, point_paid, row_fresh, linked_on, put_does, put_kept, put_fits, put_full, leaf_row}
+use Rattle.nd_update.proofs.Lacking.{does_lacks}
+use Rattle.nd_update.proofs.Owning.{match_none}
+use Rattle.nd_update.proofs.Paying.{paid_more}
 use Rattle.nd_update.proofs.leaves.insert_in_leaf.Goals as goal
+
+pub take_row-requires-clause-paid : goal.take_row-requires-clause-paid
+take_row-requires-clause-paid c = paid_more 0 (c.args.rows.now.shape + 2) (known_of c.args.pass.now) (marked_of c.args.pass.now) (omega arith) c.requires.paid
+
+pub returns-in_err-at-clause-put : goal.returns-in_err-at-clause-put
+returns-in_err-at-clause-put c = match_none c.from_residual.result _ _ c.from_residual.ensures c.in_err-at.ensures.does
 
 pub write_point-requires-clause-fresh : goal.write_point-requires-clause-fresh
 write_point-requires-clause-fresh c = let at = c.in_ok-at.at in now_fresh c.args.rows.now (at ∷ []) [] [] c.args.pass.now c.take_row.new.pass c.in_ok-at.ensures.does at (in_head at [])
 
 pub divide-requires-clause-fresh : goal.divide-requires-clause-fresh
 divide-requires-clause-fresh c = row_fresh c.args.rows.now c.args.rows.now.shape c.in_ok-at.at c.args.row c.args.pass.now c.take_row.new.pass c.write_point.new.pass c.in_ok-at.ensures.does c.write_point.ensures.does c.requires.fresh
+
+pub divide-requires-clause-paid : goal.divide-requires-clause-paid
+divide-requires-clause-paid c =
+    let at = c.in_ok-at.at in
+    point_paid c.args.rows.now c.args.rows.now.shape at 0 c.args.pass.now c.take_row.new.pass c.write_point.new.pass c.in_ok-at.ensures.does c.write_point.ensures.does 0 c.requires.building c.requires.paid
 
 pub divide-requires-clause-linked : goal.divide-requires-clause-linked
 divide-requires-clause-linked c =
@@ -25,25 +39,18 @@ divide-requires-clause-linked c =
       c.requires.linked.2 ∙ c.if-count.true,
     )
 
-pub returns-then-count-clause-does : goal.returns-then-count-clause-does
-returns-then-count-clause-does c =
-    let at = c.in_ok-at.at in
-    let filled = c.divide.ensures.does in (
-      at ∷ filled.0,
-      put_does c.args.rows.now c.args.rows.now.shape at c.args.row c.args.pass.now c.take_row.new.pass c.write_point.new.pass c.in_ok-at.ensures.does c.write_point.ensures.does c.requires.fresh c.divide.new.pass filled.0 filled.1,
-    )
-
 pub returns-then-count-clause-kept : goal.returns-then-count-clause-kept
 returns-then-count-clause-kept c =
-    let filled = c.divide.ensures.does in
-    put_kept c.args.rows.now c.args.rows.now.shape c.in_ok-at.at c.args.row c.args.pass.now c.take_row.new.pass c.write_point.new.pass c.in_ok-at.ensures.does c.write_point.ensures.does c.requires.fresh c.divide.new.pass filled.0 filled.1
+    match_both c.divide.result _ _ _ _ (λ none. none)
+    (λ u kept. put_kept c.args.rows.now c.args.rows.now.shape c.in_ok-at.at c.args.row c.args.pass.now c.take_row.new.pass c.write_point.new.pass c.in_ok-at.ensures.does c.write_point.ensures.does c.requires.fresh c.divide.new.pass kept)
     c.divide.ensures.kept
 
 pub returns-then-count-clause-put : goal.returns-then-count-clause-put
 returns-then-count-clause-put c =
     let r = c.args.rows.now in
     let at = c.in_ok-at.at in
-    if_some c.divide.result _ _
+    match_both c.divide.result _ _ _ _
+    (λ lacks. does_lacks r (at ∷ []) [] (at ∷ []) c.args.pass.now c.write_point.new.pass c.divide.new.pass (point_does c.args.rows.now c.args.rows.now.shape at 0 c.args.pass.now c.take_row.new.pass c.write_point.new.pass c.in_ok-at.ensures.does c.write_point.ensures.does) lacks)
     (λ u filled. (
       at,
       filled.0,
@@ -64,20 +71,10 @@ pub write_first-requires-clause-fresh : goal.write_first-requires-clause-fresh
 write_first-requires-clause-fresh c = still_fresh c.args.rows.now [] [] (c.args.row ∷ []) c.write_point.new.pass c.write_word.new.pass c.write_word.ensures.does c.args.row
     (row_fresh c.args.rows.now c.args.rows.now.shape c.in_ok-at.at c.args.row c.args.pass.now c.take_row.new.pass c.write_point.new.pass c.in_ok-at.ensures.does c.write_point.ensures.does c.requires.fresh)
 
-pub returns-clause-does : goal.returns-clause-does
-returns-clause-does c =
-    let r = c.args.rows.now in
-    let at = c.in_ok-at.at in (
-      at ∷ [],
-      put_does r r.shape at c.args.row c.args.pass.now c.take_row.new.pass c.write_point.new.pass c.in_ok-at.ensures.does c.write_point.ensures.does c.requires.fresh c.write_first.new.pass []
-          (writes_both r c.args.row c.write_point.new.pass c.write_word.new.pass c.write_first.new.pass c.write_word.ensures.does c.write_first.ensures.does),
-    )
-
 pub returns-clause-kept : goal.returns-clause-kept
 returns-clause-kept c =
     let r = c.args.rows.now in
-    put_kept r r.shape c.in_ok-at.at c.args.row c.args.pass.now c.take_row.new.pass c.write_point.new.pass c.in_ok-at.ensures.does c.write_point.ensures.does c.requires.fresh c.write_first.new.pass []
-    (writes_both r c.args.row c.write_point.new.pass c.write_word.new.pass c.write_first.new.pass c.write_word.ensures.does c.write_first.ensures.does)
+    put_kept r r.shape c.in_ok-at.at c.args.row c.args.pass.now c.take_row.new.pass c.write_point.new.pass c.in_ok-at.ensures.does c.write_point.ensures.does c.requires.fresh c.write_first.new.pass
     (λ k high. let few = c.requires.few in c.write_first.ensures.outside c.args.row k (inr (inr (omega (arith, high)))) ∙ c.write_word.ensures.outside c.args.row k (inr (inr (omega (arith, high, few, c.if-count.false)))))
 
 pub returns-clause-put : goal.returns-clause-put

@@ -10,7 +10,11 @@ use Rattle.nd_rows.specs.Layout.{HasWords}
 use Rattle.nd_update.specs.Insertion.{at_places}
 use Rattle.nd_update.proofs.Building.{does_both, does_write, now_fresh, still_fresh}
 use Rattle.nd_update.proofs.Filling.{link_row, link_first, links_long, link_next, box_first, box_next, box_long}
+use Rattle.nd_update.proofs.Owning.{match_none}
 use Rattle.nd_update.proofs.leaves.write_group.Goals as goal
+
+pub returns-in_err-leaf-clause-does : goal.returns-in_err-leaf-clause-does
+returns-in_err-leaf-clause-does c = match_none c.from_residual.result _ _ c.from_residual.ensures c.in_err-leaf.ensures.does
 
 pub write_word-requires-clause-fresh : goal.write_word-requires-clause-fresh
 write_word-requires-clause-fresh c = let leaf = c.in_ok-leaf.leaf in now_fresh c.args.rows.now (leaf ∷ []) [] [] c.args.pass.now c.take_row.new.pass c.in_ok-leaf.ensures.does leaf (in_head leaf [])

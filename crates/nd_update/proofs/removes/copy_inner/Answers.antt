@@ -7,6 +7,7 @@ use Rattle.nd_rows.specs.Layout.{HasWords, IsBoxRow}
 use Rattle.nd_rows.specs.Nodes.{heads}
 use Rattle.nd_update.specs.Left.{alive}
 use Rattle.nd_update.proofs.Building.{writes_both, does_read, still_fresh}
+use Rattle.nd_update.proofs.Paying.{still_read}
 use Rattle.nd_update.proofs.Removing.{drop_there, alive_split, few_alive}
 use Rattle.nd_update.proofs.LeafSteps.{copied}
 use Rattle.nd_update.proofs.CopyDone.{writes_none, readable_row, box_known, copy_does}
@@ -91,6 +92,13 @@ write_box-requires-clause-parts c =
 
 pub returns-clause-does : goal.returns-clause-does
 returns-clause-does c = copy_does c.args.rows.now c.args.own c.args.pass.now c.loop-k.pass c.write_first.new.pass c.read_box-range.new.pass c.write_box.new.pass c.loop-k.invariant.0 c.write_first.ensures.does c.read_box-range.ensures.does c.write_box.ensures.does
+
+pub returns-clause-read : goal.returns-clause-read
+returns-clause-read c =
+    let ideal = c.requires.boxed.1.boxed.ideal in
+    let parts = ideal.is_value.at_least_two in
+    let same = ideal.parts in
+    still_read c.args.rows.now [] [] (c.args.own ∷ []) c.read_box-range.new.pass c.write_box.new.pass c.read_box-range.ensures.does.building c.write_box.ensures.does c.args.row (c.read_box-range.ensures.read (omega (arith, parts, same)))
 
 pub returns-clause-inner : goal.returns-clause-inner
 returns-clause-inner c b named is rows =

@@ -4,8 +4,18 @@ use Rattle.era_rows.specs.Known.{known_words}
 use Rattle.era_rows.specs.Passes.{known_of}
 use Rattle.nd_rows.specs.declared.layout.TheConstants.{FIRST_LINK}
 use Rattle.nd_rows.specs.Layout.{HasWords}
-use Rattle.nd_update.proofs.Building.{looks_words, words_outside, words_snoc}
+use Rattle.nd_update.proofs.Building.{read_does, looks_do, looks_words, words_outside, words_snoc}
 use Rattle.nd_update.proofs.removes.copy_link.Goals as goal
+
+pub write_word-requires-clause-building : goal.write_word-requires-clause-building
+write_word-requires-clause-building c = (looks_do c.args.rows.now (c.args.row ∷ []) c.args.pass.now c.word-link.new.pass c.requires.building c.word-link.ensures.looks).building
+
+pub returns-clause-does : goal.returns-clause-does
+returns-clause-does c =
+    let r = c.args.rows.now in
+    let p = c.args.pass.now in
+    let q = c.word-link.new.pass in
+    read_does r [] [] (c.args.own ∷ []) p q c.write_word.new.pass (looks_do r (c.args.row ∷ []) p q c.requires.building c.word-link.ensures.looks) c.write_word.ensures.does
 
 pub returns-clause-links : goal.returns-clause-links
 returns-clause-links c x links there has len =

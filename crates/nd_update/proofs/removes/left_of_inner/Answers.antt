@@ -2,9 +2,10 @@ use Rattle.std.proofs.Common.{◌≡◌, ℕ, zero, suc, ◌+◌, ◌≤◌, [],
 use Rattle.era_core.specs.Versions.{Copy}
 use Rattle.era_core.proofs.ListFacts.{in_head}
 use Rattle.era_rows.specs.Known.{known_words}
-use Rattle.era_rows.specs.Passes.{known_of, work_of}
+use Rattle.era_rows.specs.Passes.{known_of, marked_of, work_of}
 use Rattle.nd_update.specs.Left.{alive, IsBoxed}
 use Rattle.nd_update.proofs.Building.{does_none, does_both, now_fresh}
+use Rattle.nd_update.proofs.Paying.{paid_more}
 use Rattle.nd_update.proofs.Removing.{stay_pinned, row_still}
 use Rattle.nd_update.proofs.Sweeping.{nothing_stays}
 use Rattle.nd_update.proofs.RemovingAll.{single}
@@ -13,7 +14,7 @@ use Rattle.nd_update.proofs.InnerDone.{alive_heads, inner_few, inner_many}
 use Rattle.nd_update.proofs.removes.left_of_inner.Goals as goal
 
 pub returns-then-count-eq0-clause-does : goal.returns-then-count-eq0-clause-does
-returns-then-count-eq0-clause-does c = ([], does_none c.args.rows.now c.args.pass.now c.requires.building)
+returns-then-count-eq0-clause-does c = ([], omega arith, λ some. absurd (omega (arith, some)), does_none c.args.rows.now c.args.pass.now c.requires.building)
 
 pub returns-then-count-eq0-clause-left : goal.returns-then-count-eq0-clause-left
 returns-then-count-eq0-clause-left c v b kids named boxed left =
@@ -30,7 +31,7 @@ pub first_left-requires-clause-some : goal.first_left-requires-clause-some
 first_left-requires-clause-some c = let n = c.count_left-count.ensures in let one = c.if-count-eq1.true in omega (arith, n, one)
 
 pub returns-then-count-eq1-clause-does : goal.returns-then-count-eq1-clause-does
-returns-then-count-eq1-clause-does c = ([], does_none c.args.rows.now c.args.pass.now c.requires.building)
+returns-then-count-eq1-clause-does c = ([], omega arith, λ some. absurd (omega (arith, some)), does_none c.args.rows.now c.args.pass.now c.requires.building)
 
 pub returns-then-count-eq1-clause-left : goal.returns-then-count-eq1-clause-left
 returns-then-count-eq1-clause-left c v b kids named boxed left =
@@ -43,6 +44,13 @@ returns-then-count-eq1-clause-left c v b kids named boxed left =
       inner_few r.rows v r.shape words kids named (known_words (known_of p)) (known_of p).core.fresh left c.args.row b (one.0 ∷ []) one.1 (omega arith) c.told-then-count-eq1.result
           (let e = c.told-then-count-eq1.ensures in let x = c.first_left.ensures one.0 [] one.1 in omega (arith, e, x)),
     )
+
+pub take_row-requires-clause-paid : goal.take_row-requires-clause-paid
+take_row-requires-clause-paid c =
+    let p = c.args.pass.now in paid_more 0 (c.args.rows.now.shape + 2) (known_of p) (marked_of p) (omega arith) c.requires.paid
+
+pub returns-in_err-own-clause-lacks : goal.returns-in_err-own-clause-lacks
+returns-in_err-own-clause-lacks c _ = c.in_err-own.ensures.does
 
 pub copy_inner-requires-clause-building : goal.copy_inner-requires-clause-building
 copy_inner-requires-clause-building c = c.in_ok-own.ensures.does.building
@@ -68,7 +76,7 @@ copy_inner-requires-clause-boxed c =
 pub returns-clause-does : goal.returns-clause-does
 returns-clause-does c =
     let own = c.in_ok-own.own in
-    (own ∷ [], does_both c.args.rows.now (own ∷ []) [] [] [] [] (own ∷ []) c.args.pass.now c.take_row.new.pass c.copy_inner.new.pass c.in_ok-own.ensures.does c.copy_inner.ensures.does)
+    (own ∷ [], omega arith, λ _. c.copy_inner.ensures.read, does_both c.args.rows.now (own ∷ []) [] [] [] [] (own ∷ []) c.args.pass.now c.take_row.new.pass c.copy_inner.new.pass c.in_ok-own.ensures.does c.copy_inner.ensures.does)
 
 pub returns-clause-left : goal.returns-clause-left
 returns-clause-left c v b kids named boxed left =

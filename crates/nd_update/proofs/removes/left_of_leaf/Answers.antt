@@ -1,18 +1,19 @@
-use Rattle.std.proofs.Common.{[], ◌∷◌, arith}
+use Rattle.std.proofs.Common.{◌+◌, [], ◌∷◌, arith}
 use Rattle.era_core.proofs.ListFacts.{in_head}
 use Rattle.era_rows.specs.Known.{pinned_copy, known_words}
-use Rattle.era_rows.specs.Passes.{known_of}
+use Rattle.era_rows.specs.Passes.{known_of, marked_of}
 use Rattle.nd_rows.specs.Nodes.{rows_with}
 use Rattle.nd_update.specs.Left.{IsHitLeaf}
 use Rattle.era_core.specs.Versions.{Copy}
 use Rattle.nd_update.proofs.Building.{does_none, does_both, now_fresh}
+use Rattle.nd_update.proofs.Paying.{paid_more}
 use Rattle.nd_update.proofs.Removing.{stay_pinned, inside_now}
 use Rattle.nd_update.proofs.Sweeping.{known_rows}
 use Rattle.nd_update.proofs.LeafDone.{leaf_all, leaf_some}
 use Rattle.nd_update.proofs.removes.left_of_leaf.Goals as goal
 
 pub returns-then-hit-count-clause-does : goal.returns-then-hit-count-clause-does
-returns-then-hit-count-clause-does c = ([], does_none c.args.rows.now c.args.pass.now c.requires.building)
+returns-then-hit-count-clause-does c = ([], omega arith, does_none c.args.rows.now c.args.pass.now c.requires.building)
 
 pub returns-then-hit-count-clause-left : goal.returns-then-hit-count-clause-left
 returns-then-hit-count-clause-left c v b placed is =
@@ -23,13 +24,20 @@ returns-then-hit-count-clause-left c v b placed is =
       leaf_all r.rows r.shape (pinned_copy (known_of p)) c.args.row c.args.count c.args.hits.now v b placed is (known_words (known_of p)) c.args.hit c.requires.hit.0 c.requires.hit.1 c.if-hit-count.true c.told.result (let e = c.told.ensures in omega (arith, e)),
     )
 
+pub take_row-requires-clause-paid : goal.take_row-requires-clause-paid
+take_row-requires-clause-paid c =
+    let p = c.args.pass.now in paid_more 0 (c.args.rows.now.shape + 2) (known_of p) (marked_of p) (omega arith) c.requires.paid
+
+pub returns-in_err-own-clause-lacks : goal.returns-in_err-own-clause-lacks
+returns-in_err-own-clause-lacks c _ = c.in_err-own.ensures.does
+
 pub copy_leaf-requires-clause-own : goal.copy_leaf-requires-clause-own
 copy_leaf-requires-clause-own c = now_fresh c.args.rows.now (c.in_ok-own.own ∷ []) [] [] c.args.pass.now c.take_row.new.pass c.in_ok-own.ensures.does c.in_ok-own.own (in_head c.in_ok-own.own [])
 
 pub returns-clause-does : goal.returns-clause-does
 returns-clause-does c =
     let own = c.in_ok-own.own in
-    (own ∷ [], does_both c.args.rows.now (own ∷ []) [] [] [] [] (own ∷ []) c.args.pass.now c.take_row.new.pass c.copy_leaf.new.pass c.in_ok-own.ensures.does c.copy_leaf.ensures.does)
+    (own ∷ [], omega arith, does_both c.args.rows.now (own ∷ []) [] [] [] [] (own ∷ []) c.args.pass.now c.take_row.new.pass c.copy_leaf.new.pass c.in_ok-own.ensures.does c.copy_leaf.ensures.does)
 
 pub returns-clause-left : goal.returns-clause-left
 returns-clause-left c v b placed is =

@@ -1,4 +1,4 @@
-use Rattle.std.proofs.Common.{not, [], ◌++◌, length, set, sym, ap, ◌∙◌, arith}
+use Rattle.std.proofs.Common.{not, [], ◌∷◌, ◌++◌, length, set, sym, ap, ◌∙◌, arith}
 use Rattle.std.proofs.lemmas.List.{length-set}
 use Rattle.era_core.specs.Versions.{Copy}
 use Rattle.era_rows.specs.Known.{pinned_copy}
@@ -7,7 +7,7 @@ use Rattle.nd_rows.specs.declared.layout.TheConstants.{FIRST_LINK}
 use Rattle.nd_rows.specs.Layout.{HasWords}
 use Rattle.nd_rows.proofs.Pending.{links_of, link_row, inner_links}
 use Rattle.nd_update.specs.Left.{entry, next}
-use Rattle.nd_update.proofs.Building.{does_read}
+use Rattle.nd_update.proofs.Building.{looks_do, does_read}
 use Rattle.nd_update.proofs.Removing.{row_still, stay_pinned}
 use Rattle.nd_update.proofs.Listing.{plain_empty, plain_outer, leaf_told, inner_told, room_kids, stays_here, told_here, told_more}
 use Rattle.nd_update.proofs.ListingNode.{looks_twice, looks_work_does, node_begin, node_row, node_small, node_first, node_few, node_links, node_row_there, node_under, node_over}
@@ -26,6 +26,9 @@ pub overflow_cast-count : goal.overflow_cast-count
 overflow_cast-count c =
     let n = c.requires.node in
     let few = node_few c.args.rows.now c.args.pass.now n.0 n.1 n.2 c.args.k c.work-row.result n.3 n.4 c.work-row.ensures c.word-first.result c.word-first.ensures.word in omega (arith, few)
+
+pub returns-then-count-eq0-clause-does : goal.returns-then-count-eq0-clause-does
+returns-then-count-eq0-clause-does c = looks_do c.args.rows.now (c.work-row.result ∷ []) c.args.pass.now c.word-first.new.pass c.requires.building c.word-first.ensures.looks
 
 pub returns-then-count-eq0-clause-listed : goal.returns-then-count-eq0-clause-listed
 returns-then-count-eq0-clause-listed c ns others lists at more =

@@ -1,10 +1,11 @@
-use Rattle.std.proofs.Common.{◌+◌, ◌<◌, [], ◌∷◌, length, take, drop, refl, ap, ◌∙◌, arith}
+use Rattle.std.proofs.Common.{◌≡◌, ◌+◌, ◌<◌, [], ◌∷◌, length, take, drop, refl, ap, ◌∙◌, arith}
+use Rattle.era_core.specs.Lists.{times}
 use Rattle.era_core.proofs.ListFacts.{times-head}
 use Rattle.era_rows.specs.Passes.{marked_of}
 use Rattle.nd_rows.specs.Nodes.{rows_with}
 use Rattle.nd_update.specs.Removal.{going}
-use Rattle.nd_update.proofs.Building.{does_as}
-use Rattle.nd_update.proofs.Removing.{does_mark, row_still}
+use Rattle.nd_update.proofs.Building.{does_as, mark_does}
+use Rattle.nd_update.proofs.Removing.{row_still}
 use Rattle.nd_update.proofs.LeafSteps.{take_all, point, point_drop, point_link, point_there}
 use Rattle.nd_update.proofs.LeafDone.{unmarked_at, marks_more}
 use Rattle.nd_update.proofs.removes.mark_leaf.Goals as goal
@@ -18,7 +19,9 @@ mark-requires-clause-unmarked c =
 pub loop-k-init : goal.loop-k-init
 loop-k-init c = (
   c.mark.ensures.same.same_work,
-  λ v b placed is. does_mark c.args.rows.now c.args.pass.now c.mark.new.pass c.args.row c.requires.building c.mark.ensures.pass c.mark.ensures.same c.mark.ensures.known c.mark.ensures.marked,
+  λ v b placed is.
+      let unmarked : times c.args.row (marked_of c.args.pass.now) ≡ 0 = (let once = c.requires.leaf.4 c.args.row in let head = times-head c.args.row (rows_with c.requires.leaf.2) in omega (arith, once, head)) in
+      mark_does c.args.rows.now c.args.pass.now c.mark.new.pass c.args.row c.requires.building c.requires.row unmarked c.mark.ensures.pass c.mark.ensures.same c.mark.ensures.known c.mark.ensures.marked,
 )
 
 pub mark_link-requires-clause-building : goal.mark_link-requires-clause-building

@@ -13,6 +13,9 @@ work-found-requires c =
 pub returns-then-what-eq-STAYS-clause-does : goal.returns-then-what-eq-STAYS-clause-does
 returns-then-what-eq-STAYS-clause-does c = ([], [], does_none c.args.rows.now c.args.pass.now c.requires.building)
 
+pub returns-then-what-eq-STAYS-clause-paid : goal.returns-then-what-eq-STAYS-clause-paid
+returns-then-what-eq-STAYS-clause-paid c = c.requires.paid
+
 pub returns-then-what-eq-STAYS-clause-settled : goal.returns-then-what-eq-STAYS-clause-settled
 returns-then-what-eq-STAYS-clause-settled c ns others removed can at =
     stays_settled c.args.rows.now c.args.pass.now c.requires.building c.args.value.now others removed ns can c.work-found.result
@@ -38,6 +41,9 @@ returns-then-what-eq-LEAVES-clause-settled c =
     subst (λ ns. Sweeps r v ns others c.settle_leaf.new.pass (removed + more)) (sym is.3)
     (settled is.0 is.1 is.2 others removed (subst (λ ns. Settles r v ns others p removed) is.3 can) at is.4))
     c.settle_leaf.ensures.settled
+
+pub returns-then-what-eq-LEAVES-clause-lacks : goal.returns-then-what-eq-LEAVES-clause-lacks
+returns-then-what-eq-LEAVES-clause-lacks c = c.settle_leaf.ensures.lacks
 
 pub overflow_sub-what : goal.overflow_sub-what
 overflow_sub-what c =
@@ -77,3 +83,6 @@ returns-clause-settled c ns others removed can at =
     subst (λ k. Sweeps r v ns others q k) (let e : removed ≡ removed + 0 = omega arith in e)
     (subst (λ ns. Sweeps r v ns others q removed) (sym is.3)
     (c.in_ok-settle_inner.ensures.settled v is.0 is.1 is.2 others removed (subst (λ ns. Settles r v ns others p removed) is.3 can) at is.4 (let e = is.5 in omega (arith, e))))
+
+pub returns-in_err-settle_inner-clause-lacks : goal.returns-in_err-settle_inner-clause-lacks
+returns-in_err-settle_inner-clause-lacks c _ = c.in_err-settle_inner.ensures.lacks refl

@@ -1,7 +1,9 @@
-use Rattle.std.proofs.Common.{◌≡◌, ◌+◌, ◌-◌, [], ◌++◌, subst, arith}
+use Rattle.std.proofs.Common.{◌≡◌, ◌+◌, ◌-◌, [], ◌++◌, refl, subst, arith}
 use Rattle.nd_update.specs.Left.{left, entries}
 use Rattle.nd_update.specs.Sweeps.{Sweeps}
 use Rattle.nd_update.proofs.Building.{does_none, does_both}
+use Rattle.nd_update.proofs.Lacking.{does_lacks}
+use Rattle.nd_update.proofs.Paying.{paid_none}
 use Rattle.nd_update.proofs.Listing.{length-entries}
 use Rattle.nd_update.proofs.Settling.{pinned_still}
 use Rattle.nd_update.proofs.RemovingAll.{all_length, swept_first, next_settles, removed_few}
@@ -11,6 +13,7 @@ pub loop-settled-init : goal.loop-settled-init
 loop-settled-init c = (
   ([], [], does_none c.args.rows.now c.args.pass.now c.requires.building),
   λ t n is all low. swept_first c.args.rows.now c.args.value.now c.args.pass.now c.args.pass.now t n is all c.requires.no_fresh c.requires.no_marks (n - 0) (omega arith),
+  paid_none 0 c.args.pass.now c.requires.no_fresh,
 )
 
 pub settle-requires-clause-building : goal.settle-requires-clause-building
@@ -42,6 +45,9 @@ settle-requires-clause-node c =
       length-entries v k t,
     )
 
+pub settle-requires-clause-paid : goal.settle-requires-clause-paid
+settle-requires-clause-paid c = c.loop-settled.invariant.2
+
 pub overflow_add-removed : goal.overflow_add-removed
 overflow_add-removed c =
     let r = c.args.rows.now in
@@ -69,7 +75,7 @@ loop-settled-preserved c =
     let q = c.loop-settled.pass in
     let s = c.settle.new.pass in
     let so_far = c.loop-settled.invariant.0 in
-    let more = c.settle.ensures.does in
+    let more = c.in_ok-removed.ensures.does in
     let k = c.work_len-len.result - 1 - c.loop-settled.settled in (
       (so_far.0 ++ more.0, so_far.1 ++ more.1, does_both r so_far.0 so_far.1 so_far.0 more.0 more.1 more.0 p q s so_far.2 more.2),
       λ t n is all room.
@@ -80,6 +86,7 @@ loop-settled-preserved c =
           (next_settles r v p q t n is all so_far.0 so_far.1 so_far.0 so_far.2 k c.loop-settled.removed (n - c.loop-settled.settled) (omega (arith, low, len, same)) (omega (arith, low, len, same))
           (c.loop-settled.invariant.1 t n is all (omega (arith, low, len, same)))) (length-entries v k t) in
           subst (λ i. Sweeps r v (left v i t) (entries v i t) s (c.loop-settled.removed + c.in_ok-removed.field-0)) (let e : k ≡ n - (c.loop-settled.settled + 1) = omega (arith, low, len, same) in e) swept,
+      c.in_ok-removed.ensures.paid,
     )
 
 pub returns-clause-does : goal.returns-clause-does
@@ -96,8 +103,9 @@ returns-clause-swept c t n is all =
     subst (λ i. Sweeps r v (left v i t) (entries v i t) c.loop-settled.pass c.loop-settled.removed) (let e : n - c.loop-settled.settled ≡ 0 = omega (arith, same, len, high) in e)
     (c.loop-settled.invariant.1 t n is all (omega (arith, same, len, last)))
 
-pub returns-in_err-removed-clause-does : goal.returns-in_err-removed-clause-does
-returns-in_err-removed-clause-does c =
-    let so_far = c.loop-settled.invariant.0 in
-    let more = c.settle.ensures.does in
-    (so_far.0 ++ more.0, so_far.1 ++ more.1, does_both c.args.rows.now so_far.0 so_far.1 so_far.0 more.0 more.1 more.0 c.args.pass.now c.loop-settled.pass c.settle.new.pass so_far.2 more.2)
+pub returns-clause-paid : goal.returns-clause-paid
+returns-clause-paid c = c.loop-settled.invariant.2
+
+pub returns-in_err-removed-clause-lacks : goal.returns-in_err-removed-clause-lacks
+returns-in_err-removed-clause-lacks c _ =
+    let so_far = c.loop-settled.invariant.0 in does_lacks c.args.rows.now so_far.0 so_far.1 so_far.0 c.args.pass.now c.loop-settled.pass c.settle.new.pass so_far.2 (c.in_err-removed.ensures.lacks refl)

@@ -6,7 +6,6 @@ use Rattle.pls_archive.specs.declared.call.Entry.{Entry}
 use Rattle.pls_archive.specs.History.{accepts}
 use Rattle.nd_rows.specs.Entries.{IsRight, added}
 use Rattle.nd_rows.specs.Layout.{IsLawful, StandsFor}
-use Rattle.nd_update.proofs.Going.{may_build}
 use Rattle.nd_update.proofs.Published.{none_fresh}
 use Rattle.nd_update.proofs.tests.put.Goals as goal
 use Rattle.nd_update.proofs.tests.put.Goals.{After-publish}
@@ -29,9 +28,6 @@ close-requires-clause-no_fresh c =
     none_fresh _ _ _ _ _ _ _ _ _ _ _ _ c.in-Ok.field-0
     (subst (Ends (λ (e : Entry). e.caller) (λ e. e.stamp) (λ _ e. accepts e) (λ d c. IsLawful d c) (λ d c entries. StandsFor d c entries) (λ d e entries. IsRight d e entries) c.args.n c.requires.built.root c.args.built.root
     (added c.number.result (c.args.n + 1) c.args.point.now c.args.built.removed) (knows_of c.args.pass.now) (knows_of c.publish.new.pass)) c.in-Ok.is done) c.requires.built.used
-
-pub give_all_back-requires : goal.give_all_back-requires
-give_all_back-requires c = record { building = may_build c.args.rows.now c.publish.new.pass c.publish.ensures.pass }
 
 pub close-requires-in-Err-clause-pinned : goal.close-requires-in-Err-clause-pinned
 close-requires-in-Err-clause-pinned c = (c.args.n, (c.requires.built.root, c.give_all_back.ensures.builds.pinned ∙ pinned (goal.at.close-requires-in-Err-clause-pinned c).After-publish))

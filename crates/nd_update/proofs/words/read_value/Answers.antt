@@ -27,6 +27,7 @@ loop-k-preserved c = (
       let fits : SFits w64 c.from_word.result = search rules in
       let is = c.read_word-found.ensures.word _ (part_still c.args.rows.now c.args.pass.now c.loop-k.pass [] c.loop-k.invariant.0 c.args.rows.now.shape c.args.row c.args.place v refl has c.loop-k.k low) in
       next_part c.loop-k.parts v c.loop-k.k _ low few (to_z-of_z fits ∙ c.from_word.ensures.value ∙ ap from_word is ∙ word_back (get_or v c.loop-k.k (pos 0)) (part_in_range _ _ _ _ v has c.loop-k.k low)) (c.loop-k.invariant.2 v has),
+  λ some. c.read_word-found.ensures.read,
 )
 
 pub from_places-requires-clause-in_range : goal.from_places-requires-clause-in_range
@@ -35,3 +36,6 @@ from_places-requires-clause-in_range c =
     let has = c.requires.value.1 in
     let done : c.loop-k.k ≡ length v = omega (arith, has.parts, c.shape-len.ensures, c.loop-k-test.false, c.loop-k.auto.k-end) in
     subst (λ parts. IsTrue (list_all is_part parts)) (sym (read_all v c.loop-k.parts c.loop-k.k done (c.loop-k.invariant.2 v has))) (places_in_range v has.is_value.in_range)
+
+pub returns-clause-read : goal.returns-clause-read
+returns-clause-read c some = c.loop-k.invariant.3 (omega (arith, some, c.shape-len.ensures, c.loop-k-test.false))

@@ -1,7 +1,7 @@
 use Rattle.std.proofs.Common.{length, inl, inr, ap, ◌∙◌, arith}
 use Rattle.era_rows.specs.Known.{known_words}
 use Rattle.era_rows.specs.Passes.{known_of}
-use Rattle.nd_update.proofs.Building.{value_outside}
+use Rattle.nd_update.proofs.Building.{value_outside, writes_both}
 use Rattle.nd_update.proofs.Writing.{value_as}
 use Rattle.nd_update.proofs.words.write_box.Goals as goal
 
@@ -16,3 +16,6 @@ returns-clause-boxed c =
       ideal = value_outside shape c.args.row 25 29 first both c.write_value-2.ensures.outside c.args.row 21 b.ideal (inr (inl (omega (arith, few)))) ideal;
       nadir = value_as _ shape both c.args.row 25 _ b.nadir c.nadir.ensures (ap length c.nadir.ensures ∙ c.requires.parts.1) c.write_value-2.ensures.value;
     }
+
+pub returns-clause-does : goal.returns-clause-does
+returns-clause-does c = writes_both c.args.rows.now c.args.row c.args.pass.now c.write_value.new.pass c.write_value-2.new.pass c.write_value.ensures.does c.write_value-2.ensures.does

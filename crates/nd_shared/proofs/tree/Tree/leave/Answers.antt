@@ -1,7 +1,15 @@
-use Rattle.std.proofs.Common.{ap}
+use Rattle.std.proofs.Common.{ap, ◌∙◌}
+use Rattle.era_rows.specs.declared.views.Knows.{Knows}
+use Rattle.pls_archive.specs.declared.call.Entry.{Entry}
 use Rattle.nd_shared.proofs.Opening.{still_listed}
 use Rattle.nd_shared.proofs.Consistent.{consistent_view}
+use Rattle.nd_shared.proofs.Telling.{ready_left}
 use Rattle.nd_shared.proofs.tree.Tree.leave.Goals as goal
+
+pub returns-clause-ready : goal.returns-clause-ready
+returns-clause-ready c =
+    ready_left c.args.self.now.rows c.args.pass.now c.unpin.new.pass c.requires.pass c.unpin.ensures.pass (ap (λ (k : Knows Entry). k.view) c.unpin.ensures.left) c.requires.no_fresh c.unpin.ensures.marks
+    (c.unpin.ensures.same.same_work ∙ c.requires.idle) (still_listed c.args.pass.now c.unpin.new.pass c.unpin.ensures.same.same_number (ap (λ (k : Knows Entry). k.lists) c.unpin.ensures.left) c.requires.listed) c.requires.short
 
 pub returns-clause-consistent : goal.returns-clause-consistent
 returns-clause-consistent c = consistent_view c.args.self.now.rows.passes c.unpin.new.pass.number _ c.unpin.ensures.pass.sized.passes_are (still_listed c.args.pass.now c.unpin.new.pass c.unpin.ensures.same.same_number (ap (λ k. k.lists) c.unpin.ensures.left) c.requires.listed) c.unpin.ensures.consistent

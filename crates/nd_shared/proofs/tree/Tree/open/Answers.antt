@@ -1,5 +1,11 @@
+use Rattle.std.proofs.Common.{◌+◌, ap, ◌∙◌}
 use Rattle.nd_shared.proofs.Opening.{opens}
 use Rattle.nd_shared.proofs.tree.Tree.open.Goals as goal
 
 pub returns-clause-opens : goal.returns-clause-opens
 returns-clause-opens c = opens c.args.self.now.rows c.pin.result.0 c.pin.result.1 c.args.pass.now c.pin.new.pass c.pin.ensures.small.1 c.requires.ready c.pin.ensures.opened c.pin.ensures.number c.pin.ensures.pins
+
+pub returns-clause-copies : goal.returns-clause-copies
+returns-clause-copies c =
+    let is = opens c.args.self.now.rows c.pin.result.0 c.pin.result.1 c.args.pass.now c.pin.new.pass c.pin.ensures.small.1 c.requires.ready c.pin.ensures.opened c.pin.ensures.number c.pin.ensures.pins in
+    c.pin.ensures.pins.1.learns.consistent.paired ∙ ap (λ n. n + 1) is.all

@@ -1,11 +1,19 @@
+use Rattle.std.proofs.Common.{◌≡◌, ◌+◌, ◌*◌, ◌<◌, ◌≤◌, refl, ap, sym, subst, ◌∙◌, length}
+use Rattle.std.proofs.lemmas.Bool.{true≢false}
+use Rattle.std.proofs.lemmas.Result.{IfOk-weaker}
+use Rattle.era_rows.specs.Known.{Known}
+use Rattle.era_rows.specs.Passes.{known_of, seen_of}
 use Rattle.nd_shared.proofs.Built.{on_err, builds_at, opens_still}
+use Rattle.nd_shared.proofs.Recorded.{evidence_short, short_left}
+use Rattle.nd_shared.proofs.Room.{alone_room}
+use Rattle.nd_shared.proofs.Refusals.{not_full, not_spent, not_beaten, has_row, refused_as}
 use Rattle.nd_shared.proofs.tree.Tree.try_update.Goals as goal
 
 pub publish-requires-clause-built : goal.publish-requires-clause-built
 publish-requires-clause-built c =
     let opens = c.open-stamp.ensures.opens in (
       c.args.pass.now,
-      builds_at c.args.self.now.rows c.open-stamp.result c.args.pass.now c.open-stamp.new.pass c.build.new.pass opens c.build.ensures.goes c.build.ensures.work c.args.point c.in-Ok.built
+      builds_at c.args.self.now.rows c.open-stamp.result c.args.pass.now c.open-stamp.new.pass c.try_build.new.pass opens c.try_build.ensures.goes c.try_build.ensures.work (c.try_build.ensures.same_full (has_row c.try_build.result _ c.in-Ok.is refl)) c.args.point c.in-Ok.built
           (c.in-Ok.ensures.built c.open-stamp.result opens.opened.tree),
     )
 
@@ -13,20 +21,87 @@ pub tell-requires-clause-opened : goal.tell-requires-clause-opened
 tell-requires-clause-opened c =
     let opens = c.open-stamp.ensures.opens in (
       c.args.pass.now,
-      opens_still c.args.self.now.rows c.open-stamp.result c.args.pass.now c.open-stamp.new.pass c.build.new.pass opens c.build.ensures.goes c.build.ensures.work c.in-Err-Covered.ensures.refused.0 c.in-Err-Covered.ensures.refused.1,
+      opens_still c.args.self.now.rows c.open-stamp.result c.args.pass.now c.open-stamp.new.pass c.try_build.new.pass opens c.try_build.ensures.goes c.try_build.ensures.work (c.try_build.ensures.same_full (has_row c.try_build.result _ (c.in-Err-Covered.is ∙ ap refused_as c.in-Err-Covered.field-0-is) refl)) c.in-Err-Covered.ensures.refused.0 c.in-Err-Covered.ensures.refused.1,
     )
+
+pub leave-requires-clause-short : goal.leave-requires-clause-short
+leave-requires-clause-short c = evidence_short (known_of c.try_build.new.pass) (c.try_build.ensures.full (c.in-Err-Full.is ∙ ap refused_as c.in-Err-Full.field-0-is))
 
 pub returns-in-Ok-clause-refused : goal.returns-in-Ok-clause-refused
 returns-in-Ok-clause-refused c =
     let opens = c.open-stamp.ensures.opens in
     on_err c.publish.result _ _
     (λ gives. gives c.args.pass.now
-    (builds_at c.args.self.now.rows c.open-stamp.result c.args.pass.now c.open-stamp.new.pass c.build.new.pass opens c.build.ensures.goes c.build.ensures.work c.args.point c.in-Ok.built
+    (builds_at c.args.self.now.rows c.open-stamp.result c.args.pass.now c.open-stamp.new.pass c.try_build.new.pass opens c.try_build.ensures.goes c.try_build.ensures.work (c.try_build.ensures.same_full (has_row c.try_build.result _ c.in-Ok.is refl)) c.args.point c.in-Ok.built
     (c.in-Ok.ensures.built c.open-stamp.result opens.opened.tree)))
     c.publish.ensures.refused
+
+pub returns-in-Ok-clause-answers : goal.returns-in-Ok-clause-answers
+returns-in-Ok-clause-answers c =
+    let opens = c.open-stamp.ensures.opens in
+    IfOk-weaker c.publish.result _ _
+    (λ a gives. gives c.args.pass.now
+    (builds_at c.args.self.now.rows c.open-stamp.result c.args.pass.now c.open-stamp.new.pass c.try_build.new.pass opens c.try_build.ensures.goes c.try_build.ensures.work (c.try_build.ensures.same_full (has_row c.try_build.result _ c.in-Ok.is refl)) c.args.point c.in-Ok.built
+    (c.in-Ok.ensures.built c.open-stamp.result opens.opened.tree)))
+    c.publish.ensures.answers
+
+pub returns-in-Ok-clause-waits : goal.returns-in-Ok-clause-waits
+returns-in-Ok-clause-waits c = IfOk-weaker c.publish.result _ _ (λ a few accepting. few) c.publish.ensures.waits
+
+pub returns-in-Ok-clause-full : goal.returns-in-Ok-clause-full
+returns-in-Ok-clause-full c is = absurd (c.publish.ensures.full.0 is)
+
+pub returns-in-Ok-clause-same_full : goal.returns-in-Ok-clause-same_full
+returns-in-Ok-clause-same_full c other = c.publish.ensures.full.1 ∙ c.try_build.ensures.same_full (has_row c.try_build.result _ c.in-Ok.is refl) ∙ c.open-stamp.ensures.full
 
 pub returns-in-Err-Covered-clause-answers : goal.returns-in-Err-Covered-clause-answers
 returns-in-Err-Covered-clause-answers c =
     let opens = c.open-stamp.ensures.opens in
     c.tell.ensures.answers c.args.pass.now
-    (opens_still c.args.self.now.rows c.open-stamp.result c.args.pass.now c.open-stamp.new.pass c.build.new.pass opens c.build.ensures.goes c.build.ensures.work c.in-Err-Covered.ensures.refused.0 c.in-Err-Covered.ensures.refused.1)
+    (opens_still c.args.self.now.rows c.open-stamp.result c.args.pass.now c.open-stamp.new.pass c.try_build.new.pass opens c.try_build.ensures.goes c.try_build.ensures.work (c.try_build.ensures.same_full (has_row c.try_build.result _ (c.in-Err-Covered.is ∙ ap refused_as c.in-Err-Covered.field-0-is) refl)) c.in-Err-Covered.ensures.refused.0 c.in-Err-Covered.ensures.refused.1)
+
+pub returns-in-Err-Covered-clause-waits : goal.returns-in-Err-Covered-clause-waits
+returns-in-Err-Covered-clause-waits c accepting = absurd (true≢false (sym accepting))
+
+pub returns-in-Err-Covered-clause-full : goal.returns-in-Err-Covered-clause-full
+returns-in-Err-Covered-clause-full c is = absurd (not_full _ _ refl refl is)
+
+pub returns-in-Err-Covered-clause-same_full : goal.returns-in-Err-Covered-clause-same_full
+returns-in-Err-Covered-clause-same_full c other = c.tell.ensures.full ∙ c.try_build.ensures.same_full (has_row c.try_build.result _ (c.in-Err-Covered.is ∙ ap refused_as c.in-Err-Covered.field-0-is) refl) ∙ c.open-stamp.ensures.full
+
+pub returns-in-Err-Covered-clause-spent : goal.returns-in-Err-Covered-clause-spent
+returns-in-Err-Covered-clause-spent c is = absurd (not_spent _ refl is)
+
+pub returns-in-Err-Covered-clause-beaten : goal.returns-in-Err-Covered-clause-beaten
+returns-in-Err-Covered-clause-beaten c v is = absurd (not_beaten _ v refl is)
+
+pub returns-in-Err-Full-clause-full : goal.returns-in-Err-Full-clause-full
+returns-in-Err-Full-clause-full c is = (
+  short_left (known_of c.try_build.new.pass) (known_of c.leave.new.pass) c.leave.ensures.left (c.try_build.ensures.full (c.in-Err-Full.is ∙ ap refused_as c.in-Err-Full.field-0-is)),
+  subst (λ n. length (known_of c.args.pass.now).looks ≤ n) (sym (ap (λ (k : Known). k.since) c.leave.ensures.left ∙ c.try_build.ensures.goes.builds.since)) c.open-stamp.ensures.later,
+)
+
+pub returns-in-Err-Full-clause-same_full : goal.returns-in-Err-Full-clause-same_full
+returns-in-Err-Full-clause-same_full c other = absurd (other refl)
+
+pub returns-in-Err-Full-clause-spent : goal.returns-in-Err-Full-clause-spent
+returns-in-Err-Full-clause-spent c is = absurd (not_spent _ refl is)
+
+pub returns-in-Err-Full-clause-beaten : goal.returns-in-Err-Full-clause-beaten
+returns-in-Err-Full-clause-beaten c v is = absurd (not_beaten _ v refl is)
+
+pub returns-in-Err-Full-clause-room : goal.returns-in-Err-Full-clause-room
+returns-in-Err-Full-clause-room c is one =
+    let r = c.args.self.now.rows in
+    let n = c.open-stamp.result in
+    let opens = c.open-stamp.ensures.opens in
+    let seen : length (seen_of c.leave.new.pass) ≡ n = ap length (c.leave.ensures.seen ∙ c.try_build.ensures.goes.same_seen) ∙ opens.all in
+    subst (λ m. r.rows < 8 * (m + 1) + 64) (sym seen)
+    (alone_room r n c.open-stamp.new.pass (known_of c.try_build.new.pass) c.args.self.now.few opens.opened.tree opens.all c.open-stamp.ensures.copies c.try_build.ensures.goes.builds
+    (c.try_build.ensures.crowded (c.in-Err-Full.is ∙ ap refused_as c.in-Err-Full.field-0-is)) one)
+
+pub returns-in-Ok-clause-room : goal.returns-in-Ok-clause-room
+returns-in-Ok-clause-room c is = absurd (c.publish.ensures.full.0 is)
+
+pub returns-in-Err-Covered-clause-room : goal.returns-in-Err-Covered-clause-room
+returns-in-Err-Covered-clause-room c is = absurd (not_full _ _ refl refl is)
