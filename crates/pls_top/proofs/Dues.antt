@@ -1,7 +1,6 @@
 -- What may be due, by cases, and for which bytes.
 use Rattle.std.proofs.Common.{◌≡◌, ℕ, Bool, true, false, List, Option, None, Some, Result, Ok, Err, [], refl, ◌≤◌, ◌<◌, length, IsOk, ap, sym, ◌∙◌, subst, nat_le, le-leb, if◌then◌else◌}
 use Rattle.std.proofs.lemmas.Bool.{cond_both, leb-true, leb-false, lt-leb}
-use Rattle.pls_archive.specs.View.{View}
 use Rattle.pls_io.specs.Refusals.{TakesAll}
 use Rattle.pls_problem.specs.declared.instance.Instance.{Instance}
 use Rattle.pls_problem.specs.declared.reader.BadInstance.{BadInstance as Fault}
@@ -16,6 +15,7 @@ use Rattle.pls_top.specs.declared.status.Status.{Status}
 use Rattle.pls_top.specs.declared.status.Status.TheVariants.{Closed, Stopped, Usage, BadInstance, Full, TooLong}
 use Rattle.pls_top.specs.Answer.{code_of, Searches, Tells}
 use Rattle.pls_top.specs.Due.{Due, status_at, searched, demonstrated, written_out, due_for, due_in, due, instance_read, searched_in, searched_for, is_search, reads, most_bytes, usage_line, too_long_line, instance_line}
+use Rattle.pls_top.specs.Kept.{Kept}
 use Rattle.pls_top.specs.Runs.{SearchRun, HasRun}
 
 -- it is a search whose bytes are an instance, or what asks for no bytes
@@ -34,7 +34,7 @@ module _ (C : Option Settings → List ℕ → Due → Type 0)
     (usage : (bytes : List ℕ) → C None bytes (record { status = Usage; text = usage_line }))
     (closed : (s : Settings) (bytes text : List ℕ) → IsGiven s bytes → C (Some s) bytes (record { status = Closed; text = text }))
     (stopped : (s : Settings) (bytes text : List ℕ) → IsGiven s bytes → (s.mode ≡ Make → ⊥) → C (Some s) bytes (record { status = Stopped; text = text }))
-    (full : (s : Settings) (bytes text : List ℕ) → IsGiven s bytes → C (Some s) bytes (record { status = Full; text = text }))
+    (full : (s : Settings) (bytes text : List ℕ) → IsGiven s bytes → (s.mode ≡ Make → ⊥) → C (Some s) bytes (record { status = Full; text = text }))
     (bad : (s : Settings) (bytes : List ℕ) (f : Fault) → is_search s.mode ≡ true → length bytes ≤ most_bytes → instance bytes ≡ Err f
     → C (Some s) bytes (record { status = BadInstance; text = instance_line f }))
     (long : (s : Settings) (bytes : List ℕ) → is_search s.mode ≡ true → most_bytes < length bytes
@@ -44,7 +44,7 @@ module _ (C : Option Settings → List ℕ → Due → Type 0)
       → C (Some s) bytes (record { status = status_at e; text = text })
   at_end s bytes text given other end.Closed = closed s bytes text given
   at_end s bytes text given other end.Stopped = stopped s bytes text given other
-  at_end s bytes text given other end.Full = full s bytes text given
+  at_end s bytes text given other end.Full = full s bytes text given other
 
   at_reading :
       (s : Settings) (r : SearchRun) (bytes : List ℕ) → s.mode ≡ Search → length bytes ≤ most_bytes → (read : Result Instance Fault)
@@ -74,8 +74,38 @@ pub due-other :
     → (s : Option Settings) (r : SearchRun) (bytes : List ℕ) → (due s r bytes).status ≡ t → ⊥
 due-other t c0 c1 c2 c3 c6 c8 =
     at_due (λ s bytes d. d.status ≡ t → ⊥) (λ bytes is. c2 (sym (ap code_of is))) (λ s bytes text given is. c0 (sym (ap code_of is)))
-    (λ s bytes text given other is. c1 (sym (ap code_of is))) (λ s bytes text given is. c6 (sym (ap code_of is)))
+    (λ s bytes text given other is. c1 (sym (ap code_of is))) (λ s bytes text given other is. c6 (sym (ap code_of is)))
     (λ s bytes f search short fault is. c3 (sym (ap code_of is))) (λ s bytes search above is. c8 (sym (ap code_of is)))
+
+-- where Full is due, an instance is searched, and the run ended so
+pub record SearchesToFull (s : Settings) (bytes : List ℕ) (r : SearchRun) : Type 0 where
+  pub instance : Instance
+  pub searches : searched_in s.mode s bytes ≡ Some instance
+  pub ended : r.end ≡ end.Full
+
+pub due-Full : (s : Settings) (r : SearchRun) (bytes : List ℕ) → (due_in s.mode s r bytes).status ≡ Full → SearchesToFull s bytes r
+unfolding searched demonstrated written_out
+due-Full s r bytes full = let of = in_mode s.mode full in record { instance = of.0; searches = of.1; ended = of.2 }
+  where
+    ended_full : (e : End) → status_at e ≡ Full → e ≡ end.Full
+    ended_full end.Closed is = cc
+    ended_full end.Stopped is = cc
+    ended_full end.Full is = refl
+
+    by_reading : (read : Result Instance Fault) → (due_for r read).status ≡ Full → (i : Instance) × (instance_read read ≡ Some i) × (r.end ≡ end.Full)
+    by_reading (Ok i) is = (i, refl, ended_full r.end is)
+    by_reading (Err f) is = cc
+
+    by_length :
+        (short : Bool) → (if short then due_for r (instance bytes) else record { status = TooLong; text = too_long_line }).status ≡ Full
+        → (i : Instance) × ((if short then instance_read (instance bytes) else None) ≡ Some i) × (r.end ≡ end.Full)
+    by_length true is = by_reading (instance bytes) is
+    by_length false is = cc
+
+    in_mode : (m : Mode) → (due_in m s r bytes).status ≡ Full → (i : Instance) × (searched_in m s bytes ≡ Some i) × (r.end ≡ end.Full)
+    in_mode Search is = by_length (nat_le (length bytes) most_bytes) is
+    in_mode Make is = cc
+    in_mode Demo is = (made s.make, refl, ended_full r.end is)
 
 -- other bytes matter only where the words ask for them
 unless_asked :
@@ -97,7 +127,7 @@ due-same (Some s) r bytes told same = unless_asked (λ m s bytes. due_in m s r b
     unasked Demo other s bytes told = refl
 
 pub Searches-same :
-    (s : Option Settings) (journal : Option View) (r : SearchRun) (bytes told : List ℕ) → (reads s ≡ true → bytes ≡ told)
+    (s : Option Settings) (journal : Option Kept) (r : SearchRun) (bytes told : List ℕ) → (reads s ≡ true → bytes ≡ told)
     → Searches s bytes journal r → Searches s told journal r
 Searches-same None journal r bytes told same made = tt
 Searches-same (Some s) journal r bytes told same made =
@@ -121,11 +151,11 @@ due-long (Some s) r bytes asked long = in_mode_long s.mode asked
     in_mode_long Demo asked = cc
 
 -- where nothing is searched, any run will do
-pub HasRun-none : (s : Settings) (searched : Option Instance) (journal : Option View) (r : SearchRun) → searched ≡ None → HasRun s searched journal r
+pub HasRun-none : (s : Settings) (searched : Option Instance) (journal : Option Kept) (r : SearchRun) → searched ≡ None → HasRun s searched journal r
 HasRun-none s searched journal r none i is = let h : None ≡ Some i = sym none ∙ is in cc
 
 pub Searches-long :
-    (s : Option Settings) (journal : Option View) (r : SearchRun) (bytes : List ℕ) → reads s ≡ true → most_bytes < length bytes
+    (s : Option Settings) (journal : Option Kept) (r : SearchRun) (bytes : List ℕ) → reads s ≡ true → most_bytes < length bytes
     → Searches s bytes journal r
 Searches-long None journal r bytes asked long = tt
 Searches-long (Some s) journal r bytes asked long = HasRun-none s (searched_in s.mode s bytes) journal r (in_mode_long s.mode asked)

@@ -1,6 +1,5 @@
 -- What each ending of a call tells of its answer, and of what was written.
 use Rattle.std.proofs.Common.{◌≡◌, ◌⊎◌, ℕ, true, List, Option, None, Some, Result, Ok, Err, [], refl, append-nil, ◌≤◌, ◌<◌, length, IsSome, IsOk, ap, sym, ◌∙◌, subst, inl, inr, arith}
-use Rattle.pls_archive.specs.View.{View}
 use Rattle.pls_io.specs.Streams.{Rose}
 use Rattle.pls_problem.specs.declared.instance.Instance.{Instance}
 use Rattle.pls_problem.specs.declared.reader.BadInstance.{BadInstance as Fault}
@@ -10,11 +9,12 @@ use Rattle.pls_settings.specs.declared.choices.Mode.TheVariants.{Search, Make, D
 use Rattle.pls_settings.specs.declared.choices.Settings.{Settings}
 use Rattle.pls_top.specs.declared.status.Status.{Status}
 use Rattle.pls_top.specs.declared.status.Status.TheVariants.{Closed, Stopped, Usage, BadInstance, ReadFault, WriteFault, Full, Memory, TooLong}
-use Rattle.pls_top.specs.Answer.{UsageExactly, AsksSource, TooLongExactly, BadInstanceExactly, AnswersDueStatus, Tells, IsAnsweredIn, IsAnswered, IsUndisturbed, IsReadWhole, ReadsAll, Written, WrittenInPart, WritesFaultLine, ReadFailed, ReadLineInPart, WritesDueText, Searches, MadeRun, AnswersWith}
+use Rattle.pls_top.specs.Answer.{UsageExactly, AsksSource, TooLongExactly, BadInstanceExactly, AnswersDueStatus, ShowsNoFreeRow, Tells, IsAnsweredIn, IsAnswered, IsUndisturbed, IsReadWhole, ReadsAll, Written, WrittenInPart, WritesFaultLine, ReadFailed, ReadLineInPart, WritesDueText, Searches, MadeRun, AnswersWith}
 use Rattle.pls_top.specs.Due.{Due, due, reads, most_bytes, read_line, too_long_line}
 use Rattle.pls_top.specs.Ending.{Streams, Ends, IsEnding, EndsAsDue}
+use Rattle.pls_top.specs.Kept.{Kept}
 use Rattle.pls_top.specs.Runs.{SearchRun}
-use Rattle.pls_top.proofs.Dues.{at_due, due-other, due-same, Searches-same, due-long, Searches-long, no_run}
+use Rattle.pls_top.proofs.Dues.{at_due, due-other, due-Full, due-same, Searches-same, due-long, Searches-long, no_run}
 
 -- what holds of the status that is due, and of a failed write, holds of the answer
 by_ends :
@@ -67,7 +67,7 @@ answers_itself TooLong = refl
 
 -- a run that was made was made whatever the answer
 made_anyway :
-    (s : Option Settings) (bytes : List ℕ) (P : Type 0) (journal : Option View) (r : SearchRun) → Searches s bytes journal r → (t : Status)
+    (s : Option Settings) (bytes : List ℕ) (P : Type 0) (journal : Option Kept) (r : SearchRun) → Searches s bytes journal r → (t : Status)
     → MadeRun s bytes P journal r t
 made_anyway s bytes P journal r made Closed = made
 made_anyway s bytes P journal r made Stopped = made
@@ -85,10 +85,31 @@ whole_due :
     → Written (due s r bytes).text stood written → WritesDueText P (due s r bytes).text (due s r bytes).status stood written
 whole_due P written stood =
     at_due (λ s b d. Written d.text stood written → WritesDueText P d.text d.status stood written)
-    (λ b w. w) (λ s b text given w. w) (λ s b text given other w. w) (λ s b text given w. w) (λ s b f search within fault w. w)
+    (λ b w. w) (λ s b text given w. w) (λ s b text given other w. w) (λ s b text given other w. w) (λ s b f search within fault w. w)
     (λ s b search above w. w)
 
-module _ (s : Option Settings) (journal : Option View) (before after : Streams) (result : Status) where
+-- where Full is due for a run, the pass that it left shows that no row was free
+no_row_in_run :
+    (s : Option Settings) (journal : Option Kept) (bytes : List ℕ) (r : SearchRun) → Searches s bytes journal r → (due s r bytes).status ≡ Full
+    → ShowsNoFreeRow s journal
+no_row_in_run None journal bytes r made full = cc
+no_row_in_run (Some s) journal bytes r made full =
+    let of = due-Full s r bytes full in
+    let run = made of.instance of.searches in
+    let kept = run.1 in
+    let left = run.3 in
+    record {
+      settings = s;
+      given_is = refl;
+      kept = kept;
+      keeps = run.2;
+      rows = left.rows;
+      passes = left.passes;
+      shortage = left.full.1 of.ended;
+      room = λ one. left.room one of.ended;
+    }
+
+module _ (s : Option Settings) (journal : Option Kept) (before after : Streams) (result : Status) where
   -- the words ask for the source, and it failed
   abbrev HasUnread : Type 0
   HasUnread = (reads s ≡ true) × Rose before.read_faults after.read_faults
@@ -115,7 +136,7 @@ module _ (s : Option Settings) (journal : Option View) (before after : Streams) 
   usage_exactly =
       by_ending (UsageExactly s) tt tt
       (λ e. at_due (λ s bytes d. UsageExactly s d.status) (λ bytes. refl) (λ s bytes text given. refl) (λ s bytes text given other. refl)
-      (λ s bytes text given. refl) (λ s bytes f search short fault. refl) (λ s bytes search above. refl) s e.run e.bytes)
+      (λ s bytes text given other. refl) (λ s bytes f search short fault. refl) (λ s bytes search above. refl) s e.run e.bytes)
       (λ asked above. some_from_reads s asked) (λ asked rose. some_from_reads s asked)
     where
       some_from_reads : (s : Option Settings) → reads s ≡ true → IsSome s
@@ -126,7 +147,7 @@ module _ (s : Option Settings) (journal : Option View) (before after : Streams) 
   asks_source =
       by_ending (AsksSource s) tt tt
       (λ e. at_due (λ s bytes d. AsksSource s d.status) (λ bytes. tt) (λ s bytes text given. tt) (λ s bytes text given other. tt)
-      (λ s bytes text given. tt) (λ s bytes f search short fault. search) (λ s bytes search above. search) s e.run e.bytes)
+      (λ s bytes text given other. tt) (λ s bytes f search short fault. search) (λ s bytes search above. search) s e.run e.bytes)
       (λ asked above. asked) (λ asked rose. asked)
 
   pub read_fault_rose : IsEnding s journal before after result → result ≡ ReadFault → Rose before.read_faults after.read_faults
@@ -167,7 +188,7 @@ module _ (s : Option Settings) (journal : Option View) (before after : Streams) 
       (λ b same. tt)
       (λ s b text given same asked. short b (same asked) (given asked).0)
       (λ s b text given other same asked. short b (same asked) (given asked).0)
-      (λ s b text given same asked. short b (same asked) (given asked).0)
+      (λ s b text given other same asked. short b (same asked) (given asked).0)
       (λ s b f search within fault same. short b (same search) within)
       (λ s b search above same. subst (λ (x : List ℕ). most_bytes < length x) (same search) above)
       s e.run e.bytes (λ asked. e.read.told asked bytes told))
@@ -184,7 +205,7 @@ module _ (s : Option Settings) (journal : Option View) (before after : Streams) 
       (λ b same. tt)
       (λ s b text given same asked. good b (same asked) (given asked).1)
       (λ s b text given other same asked. good b (same asked) (given asked).1)
-      (λ s b text given same asked. good b (same asked) (given asked).1)
+      (λ s b text given other same asked. good b (same asked) (given asked).1)
       (λ s b f search within fault same. rw (ap instance (sym (same search)) ∙ fault) refl)
       (λ s b search above same. tt)
       s e.run e.bytes (λ asked. e.read.told asked bytes told))
@@ -193,24 +214,24 @@ module _ (s : Option Settings) (journal : Option View) (before after : Streams) 
       good : (b : List ℕ) → b ≡ bytes → IsOk (instance b) → IsOk (instance bytes)
       good b same is = subst (λ (x : List ℕ). IsOk (instance x)) same is
 
-  -- without a fault, what was asked for is answered, where the archive was not full
+  -- without a fault, what was asked for is answered
   pub complete_answer :
-      IsEnding s journal before after result → (result ≡ Full → ⊥)
-      → IsUndisturbed s before.left (HasUnread ⊎ Rose before.write_faults after.write_faults) → IsAnswered s result
-  complete_answer (inl e) not_full calm = subst (IsAnswered s) (sym e.lacks.0) (answered_memory s calm.is_line)
+      IsEnding s journal before after result → IsUndisturbed s before.left (HasUnread ⊎ Rose before.write_faults after.write_faults)
+      → IsAnswered s result
+  complete_answer (inl e) calm = subst (IsAnswered s) (sym e.lacks.0) (answered_memory s calm.is_line)
     where
       answered_memory : (s : Option Settings) → IsSome s → IsAnswered s Memory
       answered_memory None is = cc
       answered_memory (Some s) is = tt
-  complete_answer (inr (inl e)) not_full calm =
+  complete_answer (inr (inl e)) calm =
       by_writing (due s e.run e.bytes)
-      (at_due (λ s b d. IsSome s → (reads s ≡ true → (length b ≤ most_bytes) × IsOk (instance b)) → (d.status ≡ Full → ⊥) → IsAnswered s d.status)
-      (λ b is good other. cc)
-      (λ s b text given is good other. tt)
-      (λ s b text given not_made is good other. stopped_answered s.mode not_made)
-      (λ s b text given is good other. absurd (other refl))
-      (λ s b f search within fault is good other. absurd (ok_and_err (instance b) f (good search).1 fault))
-      (λ s b search above is good other. absurd (let within = (good search).0 in omega (arith, within, above)))
+      (at_due (λ s b d. IsSome s → (reads s ≡ true → (length b ≤ most_bytes) × IsOk (instance b)) → IsAnswered s d.status)
+      (λ b is good. cc)
+      (λ s b text given is good. tt)
+      (λ s b text given not_made is good. stopped_answered s.mode not_made)
+      (λ s b text given not_made is good. full_answered s.mode not_made)
+      (λ s b f search within fault is good. absurd (ok_and_err (instance b) f (good search).1 fault))
+      (λ s b search above is good. absurd (let within = (good search).0 in omega (arith, within, above)))
       s e.run e.bytes calm.is_line
       (λ asked. let told = calm.source asked in
       let P : List ℕ → Type 0 = λ x. (length x ≤ most_bytes) × IsOk (instance x) in
@@ -222,16 +243,32 @@ module _ (s : Option Settings) (journal : Option View) (before after : Streams) 
       stopped_answered Make other = other refl
       stopped_answered Demo other = tt
 
+      full_answered : (m : Mode) → (m ≡ Make → ⊥) → IsAnsweredIn m Full
+      full_answered Search other = tt
+      full_answered Make other = other refl
+      full_answered Demo other = tt
+
       ok_and_err : (r : Result Instance Fault) (f : Fault) → IsOk r → r ≡ Err f → ⊥
       ok_and_err (Ok i) f is err = cc
       ok_and_err (Err g) f is err = cc
 
-      by_writing : (d : Due) → ((d.status ≡ Full → ⊥) → IsAnswered s d.status) → Ends d before after result → IsAnswered s result
-      by_writing d answered (inl all) = subst (IsAnswered s) (sym all.0) (answered (λ full. not_full (all.0 ∙ full)))
+      by_writing : (d : Due) → IsAnswered s d.status → Ends d before after result → IsAnswered s result
+      by_writing d answered (inl all) = subst (IsAnswered s) (sym all.0) answered
       by_writing d answered (inr part) = absurd (calm.no_fault (inr part.1))
-  complete_answer (inr (inr (inl e))) not_full calm =
+  complete_answer (inr (inr (inl e))) calm =
       let told = calm.source e.asked in absurd (let within = told.2 in let above = e.long told.0 told.1 in omega (arith, within, above))
-  complete_answer (inr (inr (inr e))) not_full calm = absurd (calm.no_fault (inl (e.asked, e.rose)))
+  complete_answer (inr (inr (inr e))) calm = absurd (calm.no_fault (inl (e.asked, e.rose)))
+
+  -- Full is answered only where it is due
+  full_due : (d : Due) → Ends d before after result → result ≡ Full → d.status ≡ Full
+  full_due d (inl all) full = sym all.0 ∙ full
+  full_due d (inr part) full = let h : WriteFault ≡ Full = sym part.0 ∙ full in cc
+
+  pub shows_no_free_row : IsEnding s journal before after result → result ≡ Full → ShowsNoFreeRow s journal
+  shows_no_free_row (inl e) full = let h : Memory ≡ Full = sym e.lacks.0 ∙ full in cc
+  shows_no_free_row (inr (inl e)) full = no_row_in_run s journal e.bytes e.run e.searches (full_due (due s e.run e.bytes) e.ends full)
+  shows_no_free_row (inr (inr (inl e))) full = let h : TooLong ≡ Full = full_due too_long e.ends full in cc
+  shows_no_free_row (inr (inr (inr e))) full = let h : ReadFault ≡ Full = full_due unread e.ends full in cc
 
   -- ---- what was read
 
@@ -240,7 +277,7 @@ module _ (s : Option Settings) (journal : Option View) (before after : Streams) 
   reads_all (inr (inl e)) =
       by_ends (ReadsAll s IsCalm before.left after.left) (due s e.run e.bytes) before after result
       (at_due (λ s b d. (reads s ≡ true → IsReadWhole before.left after.left) → ReadsAll s IsCalm before.left after.left d.status)
-      (λ b whole. tt) (λ s b text given whole. whole) (λ s b text given other whole. whole) (λ s b text given whole. whole)
+      (λ b whole. tt) (λ s b text given whole. whole) (λ s b text given other whole. whole) (λ s b text given other whole. whole)
       (λ s b f search within fault whole. whole search) (λ s b search above whole. tt) s e.run e.bytes e.read.none_left)
       (λ asked calm bytes told within. e.read.none_left asked bytes told) e.ends
   reads_all (inr (inr (inl e))) =
@@ -259,7 +296,7 @@ module _ (s : Option Settings) (journal : Option View) (before after : Streams) 
   fault_line_written (inr (inl e)) stood told =
       by_text (λ t. WritesFaultLine t stood after.written) (due s e.run e.bytes) before after result stood told
       (at_due (λ s b d. Written d.text stood after.written → WritesFaultLine d.status stood after.written)
-      (λ b w. w) (λ s b text given w. tt) (λ s b text given other w. tt) (λ s b text given w. tt)
+      (λ b w. w) (λ s b text given w. tt) (λ s b text given other w. tt) (λ s b text given other w. tt)
       (λ s b f search within fault w. (b, f, fault, w)) (λ s b search above w. w) s e.run e.bytes)
       (λ part. tt) e.ends
   fault_line_written (inr (inr (inl e))) stood told =

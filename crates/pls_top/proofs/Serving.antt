@@ -1,7 +1,6 @@
 -- How the parts of the program end, as endings of the whole.
 use Rattle.std.proofs.Common.{◌≡◌, ◌⊎◌, ℕ, true, false, List, [], Option, None, Some, Result, Err, length, ap, sym, ◌∙◌, subst, inl, inr, refl}
 use Rattle.std.proofs.lemmas.Bool.{le-leb}
-use Rattle.pls_archive.specs.View.{View}
 use Rattle.pls_archive.specs.declared.point.Point.{Point}
 use Rattle.pls_io.specs.Refusals.{TakesAll}
 use Rattle.pls_problem.specs.Made.{made}
@@ -11,17 +10,17 @@ use Rattle.pls_problem.specs.declared.instance.Instance.{Instance}
 use Rattle.pls_problem.specs.declared.reader.BadInstance.{BadInstance as Fault}
 use Rattle.pls_problem.specs.declared.reader.BadInstance.TheVariants.{Memory}
 use Rattle.pls_search.specs.declared.end.End.{End}
-use Rattle.pls_search.specs.declared.end.End.TheVariants as end
 use Rattle.pls_settings.specs.declared.choices.Mode.{Mode}
 use Rattle.pls_settings.specs.declared.choices.Mode.TheVariants.{Search}
 use Rattle.pls_settings.specs.declared.choices.Settings.{Settings}
 use Rattle.pls_top.specs.declared.report.Counts.{Counts}
 use Rattle.pls_top.specs.declared.search.Outcome.{Outcome}
 use Rattle.pls_top.specs.declared.status.Status.{Status}
-use Rattle.pls_top.specs.declared.status.Status.TheVariants.{Closed, BadInstance, Full}
+use Rattle.pls_top.specs.declared.status.Status.TheVariants.{Closed, BadInstance}
 use Rattle.pls_top.specs.Report.{report, demo_report}
 use Rattle.pls_top.specs.Due.{Due, status_at, instance_line, searched, demonstrated, written_out, due, due_in, due_for, instance_read, searched_in, is_search, reads, most_bytes}
 use Rattle.pls_top.specs.Ending.{Streams, Finishes, FinishesIfMemory, FinishesSearch, WasRead, Ends, IsEnding}
+use Rattle.pls_top.specs.Kept.{Kept}
 use Rattle.pls_top.specs.Runs.{SearchRun, HasRun, Shows, front_of, counts_of}
 use Rattle.pls_top.proofs.Dues.{no_run, HasRun-none}
 
@@ -52,13 +51,13 @@ WasRead-whole s text before after steady all =
 
 module _ (before after : Streams) (result : Status) where
   -- the same of the streams
-  abbrev EndsSearch : Settings → Option Instance → Option View → (SearchRun → Due) → Type 0
+  abbrev EndsSearch : Settings → Option Instance → Option Kept → (SearchRun → Due) → Type 0
   EndsSearch s searched journal d =
       FinishesSearch s searched journal d before.write_faults after.write_faults before.written after.written result
 
   -- with what is due in the mode
   ends_in_mode :
-      (s : Settings) (journal : Option View) (m : Mode) (bytes : List ℕ) → s.mode ≡ m → WasRead (Some s) bytes before after
+      (s : Settings) (journal : Option Kept) (m : Mode) (bytes : List ℕ) → s.mode ≡ m → WasRead (Some s) bytes before after
       → EndsSearch s (searched_in m s bytes) journal (λ r. due_in m s r bytes) → IsEnding (Some s) journal before after result
   ends_in_mode s journal m bytes is read ends =
       by_memory (subst (λ (x : Mode). EndsSearch s (searched_in x s bytes) journal (λ r. due_in x s r bytes)) (sym is) ends)
@@ -69,7 +68,7 @@ module _ (before after : Streams) (result : Status) where
 
   -- a search of what was read
   pub ends_searched :
-      (s : Settings) (journal : Option View) (text read : List ℕ) → text ≡ read → s.mode ≡ Search
+      (s : Settings) (journal : Option Kept) (text read : List ℕ) → text ≡ read → s.mode ≡ Search
       → after.read_faults ≡ before.read_faults → TakesAll most_bytes before.left read after.left
       → EndsSearch s (instance_read (instance text)) journal (λ r. due_for r (instance text)) → IsEnding (Some s) journal before after result
   ends_searched s journal text read same mode steady all ends =
@@ -80,14 +79,14 @@ module _ (before after : Streams) (result : Status) where
 
   -- what is due in another mode, in which nothing is read
   pub ends_unread :
-      (s : Settings) (journal : Option View) (m : Mode) → s.mode ≡ m → is_search m ≡ false → after.read_faults ≡ before.read_faults
+      (s : Settings) (journal : Option Kept) (m : Mode) → s.mode ≡ m → is_search m ≡ false → after.read_faults ≡ before.read_faults
       → EndsSearch s (searched_in m s []) journal (λ r. due_in m s r []) → IsEnding (Some s) journal before after result
   ends_unread s journal m is unasked steady ends =
       ends_in_mode s journal m [] is (WasRead-unasked (Some s) [] before after (ap is_search is ∙ unasked) steady) ends
 
   -- what is due where the words are no command line
   pub ends_as_usage :
-      (given : Option Settings) (journal : Option View) → given ≡ None → after.read_faults ≡ before.read_faults
+      (given : Option Settings) (journal : Option Kept) → given ≡ None → after.read_faults ≡ before.read_faults
       → Ends (due None no_run []) before after result → IsEnding given journal before after result
   ends_as_usage given journal none steady ends =
       subst (λ (x : Option Settings). IsEnding x journal before after result) (sym none)
@@ -95,16 +94,11 @@ module _ (before after : Streams) (result : Status) where
 
   -- of words with these settings
   pub ends_with :
-      (given s : Option Settings) (journal : Option View) → given ≡ s → IsEnding s journal before after result
+      (given s : Option Settings) (journal : Option Kept) → given ≡ s → IsEnding s journal before after result
       → IsEnding given journal before after result
   ends_with given s journal same ending = subst (λ (x : Option Settings). IsEnding x journal before after result) (sym same) ending
 
 -- ---- what the parts of the program write
-
-pub status_at-Full : (e : End) → (e ≡ end.Full → ⊥) → status_at e ≡ Full → ⊥
-status_at-Full end.Closed other full = cc
-status_at-Full end.Stopped other full = cc
-status_at-Full end.Full other full = other refl
 
 module _ (faults faults' : ℕ) (written written' : Option (List ℕ)) (result : Status) where
   abbrev IsFinished : Status → List ℕ → Type 0
@@ -124,7 +118,7 @@ module _ (faults faults' : ℕ) (written written' : Option (List ℕ)) (result :
       subst (IsFinished (status_at r.end)) same (subst (λ t. IsFinished t text) (is_status ∙ ap status_at shows.end) finishes)
 
   pub finishes_searched :
-      (s : Settings) (i : Instance) (journal : Option View) (outcome : Outcome)
+      (s : Settings) (i : Instance) (journal : Option Kept) (outcome : Outcome)
       → (r : SearchRun) × HasRun s (Some i) journal r × Shows i r outcome
       → (status : Status) → status ≡ status_at outcome.end
       → (text : List ℕ) → text ≡ report i outcome.front outcome.counts outcome.end
@@ -134,7 +128,7 @@ module _ (faults faults' : ℕ) (written written' : Option (List ℕ)) (result :
       inr (r, made, finishes_shown (report i) i r outcome shows status is_status text is_text finishes)
 
   pub finishes_demonstrated :
-      (s : Settings) (i : Instance) → i ≡ made s.make → (journal : Option View) (outcome : Outcome)
+      (s : Settings) (i : Instance) → i ≡ made s.make → (journal : Option Kept) (outcome : Outcome)
       → (r : SearchRun) × HasRun s (Some i) journal r × Shows i r outcome
       → (status : Status) → status ≡ status_at outcome.end
       → (text : List ℕ) → text ≡ demo_report i s.seed outcome.front outcome.counts outcome.end
@@ -156,13 +150,13 @@ module _ (faults faults' : ℕ) (written written' : Option (List ℕ)) (result :
 
   -- what is due where nothing is searched
   pub finishes_unsearched :
-      (s : Settings) (journal : Option View) (d : Due) → FinishesIfMemory d faults faults' written written' result
+      (s : Settings) (journal : Option Kept) (d : Due) → FinishesIfMemory d faults faults' written written' result
       → FinishesSearch s None journal (λ r. d) faults faults' written written' result
   finishes_unsearched s journal d (inl lacks) = inl lacks
   finishes_unsearched s journal d (inr ends) = inr (no_run, HasRun-none s None journal no_run refl, ends)
 
   pub finishes_faulty :
-      (s : Settings) (journal : Option View) (read : Result Instance Fault) (f : Fault) → (f ≡ Memory) ⊎ (read ≡ Err f) → (f ≡ Memory → ⊥)
+      (s : Settings) (journal : Option Kept) (read : Result Instance Fault) (f : Fault) → (f ≡ Memory) ⊎ (read ≡ Err f) → (f ≡ Memory → ⊥)
       → (text : List ℕ) → text ≡ instance_line f → IsFinished BadInstance text
       → FinishesSearch s (instance_read read) journal (λ r. due_for r read) faults faults' written written' result
   finishes_faulty s journal read f (inl memory) other text is_text finishes = absurd (other memory)

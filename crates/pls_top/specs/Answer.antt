@@ -1,5 +1,5 @@
 -- When each status may be answered, what was read then, and what was written.
-use Rattle.std.specs.Prelude.{[], ◌≡◌, ◌⊎◌, ℕ, ◌<◌, ◌≤◌, true, false, List, ◌++◌, length, take, Option, None, Some, IsSome, Err, IsOk, IsErr, ⊤}
+use Rattle.std.specs.Prelude.{[], ◌≡◌, ◌⊎◌, ℕ, ◌+◌, ◌*◌, ◌<◌, ◌≤◌, true, false, List, ◌++◌, length, take, Option, None, Some, IsSome, Err, IsOk, IsErr, ⊤}
 use Rattle.pls_problem.specs.Reading.{instance}
 use Rattle.pls_problem.specs.declared.reader.BadInstance.{BadInstance as Fault}
 use Rattle.pls_settings.specs.declared.choices.Mode.{Mode}
@@ -7,9 +7,10 @@ use Rattle.pls_settings.specs.declared.choices.Mode.TheVariants.{Make}
 use Rattle.pls_settings.specs.declared.choices.Settings.{Settings}
 use Rattle.pls_top.specs.declared.status.Status.{Status}
 use Rattle.pls_top.specs.declared.status.Status.TheVariants.{Closed, Stopped, Usage, BadInstance, ReadFault, WriteFault, Full, Memory, TooLong}
-use Rattle.pls_archive.specs.View.{View}
+use Rattle.nd_update.specs.Counted.{KeepsShortage}
 use Rattle.pls_top.specs.Due.{most_bytes, usage_line, read_line, too_long_line, instance_line, due, searched_in, reads}
-use Rattle.pls_top.specs.Runs.{SearchRun, HasRun}
+use Rattle.pls_top.specs.Kept.{Kept}
+use Rattle.pls_top.specs.Runs.{SearchRun, HasRun, workers_of}
 
 -- the exit status of each answer
 abbrev pub code_of : Status → ℕ
@@ -56,6 +57,18 @@ BadInstanceExactly s bytes Full = reads s ≡ true → IsOk (instance bytes)
 BadInstanceExactly s bytes BadInstance = IsErr (instance bytes)
 BadInstanceExactly s bytes status = ⊤
 
+-- Full is answered only where the journal keeps a pass of a tree in as many rows as were wanted, which shows that none was free; and
+-- by one worker only where these are less than 64 and eight for each start and move
+pub record ShowsNoFreeRow (given : Option Settings) (journal : Option Kept) : Type 0 where
+  pub settings : Settings
+  pub given_is : given ≡ Some settings
+  pub kept : Kept
+  pub keeps : journal ≡ Some kept
+  pub rows : kept.known.rows ≡ settings.rows
+  pub passes : kept.known.passes ≡ workers_of settings
+  pub shortage : KeepsShortage kept.known
+  pub room : workers_of settings ≡ 1 → settings.rows < 8 * (settings.starts + settings.moves) + 64
+
 -- the status that is due is the answer, unless a stream failed or memory ran out
 abbrev pub AnswersDueStatus : Status → Status → Type 0
 AnswersDueStatus due ReadFault = ⊤
@@ -72,6 +85,8 @@ abbrev pub IsAnsweredIn : Mode → Status → Type 0
 IsAnsweredIn mode Closed = ⊤
 IsAnsweredIn Make Stopped = ⊥
 IsAnsweredIn mode Stopped = ⊤
+IsAnsweredIn Make Full = ⊥
+IsAnsweredIn mode Full = ⊤
 IsAnsweredIn mode Memory = ⊤
 IsAnsweredIn mode status = ⊥
 
@@ -151,19 +166,19 @@ WritesDueText read_failed due status = Written due
 -- ---- the run that was made
 
 -- where the words and the bytes ask for a search, it made this run
-abbrev pub Searches : Option Settings → List ℕ → Option View → SearchRun → Type 0
+abbrev pub Searches : Option Settings → List ℕ → Option Kept → SearchRun → Type 0
 Searches None bytes journal r = ⊤
 Searches (Some s) bytes journal r = HasRun s (searched_in s.mode s bytes) journal r
 
 -- the same of an answer: a search was made, unless memory ran out, or a read failed
-abbrev pub MadeRun : Option Settings → List ℕ → Type 0 → Option View → SearchRun → Status → Type 0
+abbrev pub MadeRun : Option Settings → List ℕ → Type 0 → Option Kept → SearchRun → Status → Type 0
 MadeRun s bytes read_failed journal r ReadFault = ⊤
 MadeRun s bytes read_failed journal r Memory = ⊤
 MadeRun s bytes read_failed journal r WriteFault = (read_failed → ⊥) → Searches s bytes journal r
 MadeRun s bytes read_failed journal r status = Searches s bytes journal r
 
 -- The answer for these bytes: a run was made, where a search is asked for; what is due with it is the status, and was written.
-pub record AnswersWith (s : Option Settings) (bytes : List ℕ) (read_failed : Type 0) (journal : Option View) (result : Status)
+pub record AnswersWith (s : Option Settings) (bytes : List ℕ) (read_failed : Type 0) (journal : Option Kept) (result : Status)
     (written written' : Option (List ℕ)) (r : SearchRun) : Type 0 where
   pub made : MadeRun s bytes read_failed journal r result
   pub status : AnswersDueStatus (due s r bytes).status result

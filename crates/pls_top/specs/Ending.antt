@@ -4,10 +4,10 @@ use Rattle.pls_io.specs.Streams.{Rose}
 use Rattle.pls_settings.specs.declared.choices.Settings.{Settings}
 use Rattle.pls_top.specs.declared.status.Status.{Status}
 use Rattle.pls_top.specs.declared.status.Status.TheVariants.{ReadFault, WriteFault, Memory, TooLong}
-use Rattle.pls_archive.specs.View.{View}
 use Rattle.pls_top.specs.Answer.{IsReadWhole, Written, WrittenInPart, Searches}
 use Rattle.pls_top.specs.Due.{most_bytes, read_line, too_long_line, Due, due, reads}
 use Rattle.pls_problem.specs.declared.instance.Instance.{Instance}
+use Rattle.pls_top.specs.Kept.{Kept}
 use Rattle.pls_top.specs.Runs.{SearchRun, HasRun}
 
 -- all of a text was written, no write failed, and the answer is this status
@@ -36,7 +36,7 @@ FinishesIfMemory d faults faults' written written' result =
     LacksMemory faults faults' written written' result ⊎ Finishes d faults faults' written written' result
 
 -- the same, with what is due for a run, which was made where an instance is searched
-abbrev pub FinishesSearch : Settings → Option Instance → Option View → (SearchRun → Due) → ℕ → ℕ → Option (List ℕ) → Option (List ℕ) → Status → Type 0
+abbrev pub FinishesSearch : Settings → Option Instance → Option Kept → (SearchRun → Due) → ℕ → ℕ → Option (List ℕ) → Option (List ℕ) → Status → Type 0
 FinishesSearch s searched journal d faults faults' written written' result =
     LacksMemory faults faults' written written' result
     ⊎ ((r : SearchRun) × HasRun s searched journal r × Finishes (d r) faults faults' written written' result)
@@ -65,7 +65,7 @@ pub record EndsWithoutMemory (before after : Streams) (result : Status) : Type 0
   pub lacks : LacksMemory before.write_faults after.write_faults before.written after.written result
 
 -- with what is due for the bytes that were read, and for the run that was made where a search is asked for
-pub record EndsAsDue (s : Option Settings) (journal : Option View) (before after : Streams) (result : Status) : Type 0 where
+pub record EndsAsDue (s : Option Settings) (journal : Option Kept) (before after : Streams) (result : Status) : Type 0 where
   pub bytes : List ℕ
   pub run : SearchRun
   pub read : WasRead s bytes before after
@@ -86,7 +86,7 @@ pub record EndsUnread (s : Option Settings) (before after : Streams) (result : S
   pub ends : Ends (record { status = ReadFault; text = read_line }) before after result
 
 -- how a call of the program ends
-abbrev pub IsEnding : Option Settings → Option View → Streams → Streams → Status → Type 0
+abbrev pub IsEnding : Option Settings → Option Kept → Streams → Streams → Status → Type 0
 IsEnding s journal before after result =
     EndsWithoutMemory before after result
     ⊎ (EndsAsDue s journal before after result ⊎ (EndsTooLong s before after result ⊎ EndsUnread s before after result))

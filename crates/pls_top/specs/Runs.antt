@@ -1,17 +1,19 @@
 -- The run of a search by all its callers, and what it found.
-use Rattle.std.specs.Prelude.{◌≡◌, ◌≢◌, ◌⊎◌, ℕ, Option, Some, List, ◌∷◌, length, map}
+use Rattle.std.specs.Prelude.{◌≡◌, ◌≢◌, ◌↔◌, ◌⊎◌, ℕ, ◌+◌, ◌*◌, ◌<◌, Option, Some, List, ◌∷◌, length, map}
 use Rattle.std.specs.List.{flat_map, range_with_len}
 use Rattle.pls_archive.specs.declared.call.Entry.{Entry}
 use Rattle.pls_archive.specs.declared.point.Point.{Point}
 use Rattle.pls_archive.specs.Lists.{Every}
 use Rattle.pls_archive.specs.Reply.{members, in_order, nondominated}
 use Rattle.pls_archive.specs.History.{submissions}
-use Rattle.pls_archive.specs.View.{View, lists_of, IsConsistent}
+use Rattle.pls_archive.specs.View.{lists_of, IsConsistent}
 use Rattle.pls_archive.specs.Explorations.{CallerRun, entries_of_run, explored, evaluated, accepted_count}
 use Rattle.pls_archive.specs.SearchRun.{IsSearchRun}
 use Rattle.pls_archive.specs.Sequential.{sequential_run}
 use Rattle.pls_archive.specs.RunLaws.{all_submissions}
 use Rattle.pls_problem.specs.declared.instance.Instance.{Instance}
+use Rattle.nd_update.specs.Counted.{KeepsShortage}
+use Rattle.pls_problem.specs.Instance.{objectives}
 use Rattle.pls_problem.specs.Starts.{starts}
 use Rattle.pls_settings.specs.declared.choices.Mode.{Mode}
 use Rattle.pls_settings.specs.declared.choices.Mode.TheVariants.{Search, Make, Demo}
@@ -20,6 +22,7 @@ use Rattle.pls_search.specs.declared.end.End.{End}
 use Rattle.pls_search.specs.declared.end.End.TheVariants.{Full}
 use Rattle.pls_search.specs.Neighbours.{point_of, neighbours_of, IsPointOf}
 use Rattle.pls_search.specs.Outcomes.{EndsAs}
+use Rattle.pls_top.specs.Kept.{Kept}
 use Rattle.pls_top.specs.declared.report.Counts.{Counts}
 use Rattle.pls_top.specs.declared.search.Outcome.{Outcome}
 
@@ -73,19 +76,24 @@ pub record IsRunOf (s : Settings) (i : Instance) (r : SearchRun) : Type 0 where
   pub points : Every (IsPointOf i) (flat_map (λ c. submissions (entries_of_run c)) (runs_of r))
   pub sequential : workers_of s ≡ 1 → r.end ≢ Full → r.first ≡ sequential_run nondominated (neighbours_of i) (starts_of s i) s.moves
 
--- the pass that was left holds the lists of the run, in order of caller, and is consistent
-pub record IsLeft (workers : ℕ) (v : View) (r : SearchRun) : Type 0 where
-  pub consistent : IsConsistent nondominated workers v
-  pub callers : map (λ (list : ℕ × List Entry). list.0) (lists_of v) ≡ range_with_len 0 workers
-  pub lists : map (λ (list : ℕ × List Entry). list.1) (lists_of v) ≡ map entries_of_run (runs_of r)
-  pub accepting : r.accepting ≡ length v.observed
+-- The pass that was left holds the lists of the run, in order of caller, and is consistent. Its tree has the rows of the settings,
+-- and it shows that none of them was free exactly where the run ended so. One worker alone ends so only where there are less than 64
+-- rows and eight for each start and move
+pub record IsLeft (s : Settings) (i : Instance) (kept : Kept) (r : SearchRun) : Type 0 where
+  pub consistent : IsConsistent nondominated (workers_of s) kept.view
+  pub callers : map (λ (list : ℕ × List Entry). list.0) (lists_of kept.view) ≡ range_with_len 0 (workers_of s)
+  pub lists : map (λ (list : ℕ × List Entry). list.1) (lists_of kept.view) ≡ map entries_of_run (runs_of r)
+  pub accepting : r.accepting ≡ length kept.view.observed
+  pub shape : kept.known.shape ≡ objectives i
+  pub rows : kept.known.rows ≡ s.rows
+  pub passes : kept.known.passes ≡ workers_of s
+  pub full : KeepsShortage kept.known ↔ (r.end ≡ Full)
+  pub room : workers_of s ≡ 1 → r.end ≡ Full → s.rows < 8 * (s.starts + s.moves) + 64
 
--- where an instance is searched, this run was made, in which no call was refused for want of room, and the journal keeps the pass
--- that was left
-abbrev pub HasRun : Settings → Option Instance → Option View → SearchRun → Type 0
+-- where an instance is searched, this run was made, and the journal keeps the pass that was left
+abbrev pub HasRun : Settings → Option Instance → Option Kept → SearchRun → Type 0
 HasRun s searched journal r =
-    (i : Instance) → searched ≡ Some i
-    → IsRunOf s i r × (r.end ≢ Full) × (v : View) × (journal ≡ Some v) × IsLeft (workers_of s) v r
+    (i : Instance) → searched ≡ Some i → IsRunOf s i r × (kept : Kept) × (journal ≡ Some kept) × IsLeft s i kept r
 
 -- the outcome tells what a run found
 pub record Shows (i : Instance) (r : SearchRun) (outcome : Outcome) : Type 0 where
@@ -94,5 +102,6 @@ pub record Shows (i : Instance) (r : SearchRun) (outcome : Outcome) : Type 0 whe
   pub end : outcome.end ≡ r.end
 
 -- the journal keeps what it had, or a pass whose view is consistent
-abbrev pub KeepsConsistent : ℕ → Option View → Option View → Type 0
-KeepsConsistent workers before after = (after ≡ before) ⊎ ((v : View) × (after ≡ Some v) × IsConsistent nondominated workers v)
+abbrev pub KeepsConsistent : ℕ → Option Kept → Option Kept → Type 0
+KeepsConsistent workers before after =
+    (after ≡ before) ⊎ ((kept : Kept) × (after ≡ Some kept) × IsConsistent nondominated workers kept.view)

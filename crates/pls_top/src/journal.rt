@@ -1,25 +1,24 @@
 //! The pass that a search left.
 ghost use Rattle.std.specs.Prelude.{◌≡◌, None, Some};
-ghost use Rattle.pls_turn.specs.Passes.{view_of};
+ghost use Rattle.pls_top.specs.Kept.{kept_of};
 
-use crate::search::Members;
-use pls_turn::TurnPass;
+use nd_shared::TreePass;
 use std::marker::Model;
 
-/// Keeps the pass that was left after a search, and no entry. Contracts see its view, which has the lists of all workers.
+/// Keeps the pass that was left after a search, and no entry. Contracts see its view, which has the lists of all workers, and what
+/// it knows of the rows.
 #[derive(Drop)]
 pub struct Journal {
-    pass: Option<TurnPass<Members>>,
+    pass: Option<TreePass>,
 }
 
 impl Model for Journal {
     ghost use Rattle.std.specs.Prelude.{Option, option_map};
-    ghost use Rattle.pls_archive.specs.View.{View};
-    ghost use Rattle.pls_turn.specs.Passes.{view_of};
+    ghost use Rattle.pls_top.specs.Kept.{Kept, kept_of};
 
-    ghost Value = { Option View };
+    ghost Value = { Option Kept };
 
-    ghost view = { λ j. option_map view_of j.pass };
+    ghost view = { λ j. option_map kept_of j.pass };
 }
 
 impl Journal {
@@ -31,8 +30,8 @@ impl Journal {
     }
 
     /// Keeps this pass in the place of any other.
-    pub(crate) fn keep(&mut self, pass: TurnPass<Members>)
-        ensures { self.new ≡ Some (view_of pass) }
+    pub(crate) fn keep(&mut self, pass: TreePass)
+        ensures { self.new ≡ Some (kept_of pass) }
     {
         self.pass = Some(pass);
     }

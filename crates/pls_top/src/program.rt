@@ -1,7 +1,6 @@
 //! From the words and bytes that come in to the bytes that go out.
 
 ghost use Rattle.std.specs.Prelude.{◌≡◌, ◌≢◌, ◌⊎◌, ◌≤◌, ◌<◌, ℕ, List, Some, None, true, IfOk, Ok, length};
-ghost use Rattle.pls_archive.specs.View.{View};
 ghost use Rattle.pls_io.specs.Streams.{Rose};
 ghost use Rattle.pls_io.specs.Refusals.{TakesSome};
 ghost use Rattle.pls_problem.specs.Made.{IsWithinLimits, made};
@@ -12,7 +11,7 @@ ghost use Rattle.pls_settings.specs.Line.{line};
 ghost use Rattle.pls_settings.specs.Limits.{HasLimits};
 ghost use Rattle.pls_settings.specs.declared.choices.Mode.TheVariants.{Search, Make, Demo};
 ghost use Rattle.pls_settings.specs.declared.choices.Settings.{Settings as Chosen};
-ghost use Rattle.pls_top.specs.Answer.{UsageExactly, AsksSource, TooLongExactly, BadInstanceExactly, Tells, IsAnswered, IsUndisturbed, LeavesUnasked, ReadsAll, WritesFaultLine, ReadFailed, ReadLineInPart, AnswersWith};
+ghost use Rattle.pls_top.specs.Answer.{UsageExactly, AsksSource, TooLongExactly, BadInstanceExactly, ShowsNoFreeRow, Tells, IsAnswered, IsUndisturbed, LeavesUnasked, ReadsAll, WritesFaultLine, ReadFailed, ReadLineInPart, AnswersWith};
 ghost use Rattle.pls_top.specs.Due.{due_for, searched, demonstrated, written_out, instance_read, searched_for, reads, most_bytes};
 ghost use Rattle.pls_top.specs.Ending.{Streams, IsEnding, Finishes, FinishesIfMemory, FinishesSearch};
 ghost use Rattle.pls_top.specs.Front.{IsSoundRun};
@@ -60,7 +59,7 @@ pub fn run<R: Threads + Wait + Sync, S: Source, K: Sink, G: Gate>(
     ensures sink_failed { K.faults sink.old < K.faults sink.new → result ≡ Status.WriteFault }
     ensures too_long { (bytes : List ℕ) → S.left source.old ≡ Some bytes → TooLongExactly (line words.now) bytes result }
     ensures bad_instance { (bytes : List ℕ) → S.left source.old ≡ Some bytes → BadInstanceExactly (line words.now) bytes result }
-    ensures never_full { result ≡ Status.Full → ⊥ }
+    ensures full { result ≡ Status.Full → ShowsNoFreeRow (line words.now) journal.new }
 
     // It does not give up by itself.
     ensures complete { IsUndisturbed (line words.now) (S.left source.old)
@@ -109,7 +108,6 @@ fn serve<R: Threads + Wait + Sync, S: Source, K: Sink, G: Gate>(
     ensures journal { (s : Chosen) → line words.now ≡ Some s → KeepsConsistent (workers_of s) journal.old journal.new }
     ensures no_journal { (bytes : List ℕ) → Tells (line words.now) (S.left source.old) bytes
         → searched_for (line words.now) bytes ≡ None → journal.new ≡ journal.old }
-    ensures never_full { result ≡ Status.Full → ⊥ }
     ensures ending { IsEnding (line words.now) journal.new
         (record { read_faults = S.faults source.old; left = S.left source.old; write_faults = K.faults sink.old; written = K.written sink.old })
         (record { read_faults = S.faults source.new; left = S.left source.new; write_faults = K.faults sink.new; written = K.written sink.new })
@@ -144,7 +142,6 @@ fn search_source<R: Threads + Wait + Sync, S: Source, K: Sink, G: Gate>(
     ensures source_count { S.faults source.old ≤ S.faults source.new }
     ensures sink_count { K.faults sink.old ≤ K.faults sink.new }
     ensures rest { TakesSome (S.left source.old) (S.left source.new) }
-    ensures never_full { result ≡ Status.Full → ⊥ }
     ensures ending { IsEnding (Some settings.now) journal.new
         (record { read_faults = S.faults source.old; left = S.left source.old; write_faults = K.faults sink.old; written = K.written sink.old })
         (record { read_faults = S.faults source.new; left = S.left source.new; write_faults = K.faults sink.new; written = K.written sink.new })
@@ -172,7 +169,6 @@ fn answer<R: Threads + Wait + Sync, K: Sink, G: Gate>(
     requires mode { settings.now.mode ≡ Search }
     requires limits { HasLimits settings.now }
     ensures count { K.faults sink.old ≤ K.faults sink.new }
-    ensures never_full { result ≡ Status.Full → ⊥ }
     ensures journal { KeepsConsistent (workers_of settings.now) journal.old journal.new }
     ensures no_journal { instance_read (instance text.now) ≡ None → journal.new ≡ journal.old }
     ensures finishes { FinishesSearch settings.now (instance_read (instance text.now)) journal.new (λ r. due_for r (instance text.now))
@@ -200,7 +196,6 @@ fn search_and_write<R: Threads + Wait + Sync, K: Sink, G: Gate>(
     requires mode { settings.now.mode ≡ Search }
     requires limits { HasLimits settings.now }
     ensures count { K.faults sink.old ≤ K.faults sink.new }
-    ensures never_full { result ≡ Status.Full → ⊥ }
     ensures journal { KeepsConsistent (workers_of settings.now) journal.old journal.new }
     ensures finishes { FinishesSearch settings.now (Some instance.now) journal.new (searched instance.now)
         (K.faults sink.old) (K.faults sink.new) (K.written sink.old) (K.written sink.new) result }
@@ -227,7 +222,6 @@ fn demonstrate<R: Threads + Wait + Sync, K: Sink, G: Gate>(
     requires mode { settings.now.mode ≡ Demo }
     requires limits { HasLimits settings.now }
     ensures count { K.faults sink.old ≤ K.faults sink.new }
-    ensures never_full { result ≡ Status.Full → ⊥ }
     ensures journal { KeepsConsistent (workers_of settings.now) journal.old journal.new }
     ensures finishes { FinishesSearch settings.now (Some (made settings.now.make)) journal.new (demonstrated settings.now)
         (K.faults sink.old) (K.faults sink.new) (K.written sink.old) (K.written sink.new) result }
@@ -256,7 +250,6 @@ fn demonstrate<R: Threads + Wait + Sync, K: Sink, G: Gate>(
 fn make_and_write<K: Sink>(alloc: Global, settings: &Settings, sink: &mut K) -> Status
     requires { IsWithinLimits settings.now.make }
     ensures count { K.faults sink.old ≤ K.faults sink.new }
-    ensures never_full { result ≡ Status.Full → ⊥ }
     ensures finishes { FinishesIfMemory (written_out settings.now)
         (K.faults sink.old) (K.faults sink.new) (K.written sink.old) (K.written sink.new) result }
 {
@@ -278,7 +271,6 @@ fn made_text(alloc: Global, spec: MakeSpec) -> Result<Vec<u8>, AllocError>
 /// Writes a text, and answers the status unless the sink fails.
 fn finish<K: Sink>(sink: &mut K, text: &[u8], status: Status) -> Status
     ensures count { K.faults sink.old ≤ K.faults sink.new }
-    ensures full { result ≡ Status.Full → status ≡ Status.Full }
     ensures finishes { Finishes (record { status = status; text = text.now })
         (K.faults sink.old) (K.faults sink.new) (K.written sink.old) (K.written sink.new) result }
 {

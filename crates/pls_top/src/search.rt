@@ -1,24 +1,22 @@
 //! The search with the settings: its archive, its pool and its desk.
 ghost use Rattle.std.specs.Prelude.{◌≡◌, IfOk};
-ghost use Rattle.pls_search.specs.declared.end.End.TheVariants.{Full};
 ghost use Rattle.pls_settings.specs.Limits.{HasLimits};
 ghost use Rattle.pls_top.specs.Runs.{SearchRun, workers_of, HasRun, Shows, KeepsConsistent};
 
 use crate::journal::Journal;
 use crate::report::Counts;
-use nd_tree::NdTree;
+use nd_shared::Tree;
 use pls_archive::PointList;
-use pls_pool::{Desk, OneQueue};
+use pls_pool::{Desk, Stealing};
 use pls_problem::{Instance, starts};
 use pls_search::{End, Gate, NoMemory, Outcome as Found, search};
 use pls_settings::Settings;
-use pls_turn::Turned;
 use std::alloc::{AllocError, Global};
 use std::sync::Wait;
 use std::thread::Threads;
 
-/// The archive that the workers share by turns.
-pub(crate) type Members = NdTree;
+/// So many tasks of a worker's own go to its deque, and the later ones to its spare list.
+const ROOM: usize = 4096;
 
 /// What a search found.
 #[derive(Debug, Drop)]
@@ -42,13 +40,11 @@ pub(crate) fn search_with<R: Threads + Wait + Sync, G: Gate>(
     requires settings { HasLimits settings.now }
     requires workers { workers ≡ workers_of settings.now }
     ensures found { IfOk result (λ o. (r : SearchRun) × HasRun settings.now (Some instance.now) journal.new r × Shows instance.now r o) }
-    ensures never_full { IfOk result (λ o. o.end ≡ Full → ⊥) }
     ensures keeps { KeepsConsistent workers journal.old journal.new }
 {
     let starts = starts(alloc, instance, settings.seed, settings.starts)?;
-    let members = Members::new(alloc, instance.objectives());
-    let (archive, passes) = Turned::start(alloc, members, workers)?;
-    let (pool, seats) = OneQueue::start(alloc, workers)?;
+    let (archive, passes) = Tree::start(alloc, instance.objectives(), settings.rows, workers)?;
+    let (pool, seats) = Stealing::start(alloc, workers, ROOM)?;
     let (desk, desk_seats) = Desk::start(alloc, settings.moves, workers)?;
     match search(
         rt, alloc, instance, &starts, &archive, passes, &pool, seats, &desk, desk_seats, gate,

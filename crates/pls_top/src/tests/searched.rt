@@ -3,7 +3,7 @@ ghost use Rattle.std.specs.Prelude.{◌≡◌, ◌≤◌, ◌^◌, All, true, le
 ghost use Rattle.pls_problem.specs.Instance.{feasible};
 
 use super::meeting::Meeting;
-use super::{THREE_ITEMS, TWO_AGENTS, TWO_AGENTS_FOUND, words_of};
+use super::{THREE_ITEMS, TWO_AGENTS, TWO_AGENTS_FOUND, answered, last_line, words_of};
 use crate::report::Counts;
 use crate::search::Outcome;
 use crate::{Gate, Journal, NoGate, Status, report_text, run};
@@ -234,5 +234,17 @@ fn four_workers_of_the_program_meet(rt: HostRuntime) -> Result<(), Fail> {
     assert!(&rt; meeting.took_place());
     assert_eq!(&rt; status, Status::Closed);
     assert_eq!(&rt; sink.written(), six_pairs_found(alloc)?.as_bytes());
+    Ok(())
+}
+
+// Each of the 64 trade-offs has a row of its own, and so has the root.
+#[test]
+fn tells_that_no_row_was_free(rt: HostRuntime) -> Result<(), Fail> {
+    let alloc = rt.alloc();
+    let text = Vec::from_slice(alloc, SIX_PAIRS.as_bytes())?;
+    let words = ["search", "--rows", "64", "--moves", "1000"];
+    let (status, sink) = answered(&rt, alloc, &words, text, Vec::new(alloc))?;
+    assert_eq!(&rt; status, Status::Full);
+    assert!(&rt; last_line(sink.written()).starts_with(b"end full explored "));
     Ok(())
 }

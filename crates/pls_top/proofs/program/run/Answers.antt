@@ -1,4 +1,4 @@
-use Rattle.pls_top.proofs.Endings.{usage_exactly, asks_source, read_fault_rose, write_fault_rose, source_failed, sink_failed, too_long_exactly, bad_instance_exactly, complete_answer, reads_all, fault_line_written, read_line_in_part, answers_with}
+use Rattle.pls_top.proofs.Endings.{usage_exactly, asks_source, read_fault_rose, write_fault_rose, source_failed, sink_failed, too_long_exactly, bad_instance_exactly, shows_no_free_row, complete_answer, reads_all, fault_line_written, read_line_in_part, answers_with}
 use Rattle.pls_top.proofs.Fronts.{IsRunOf-IsSoundRun}
 use Rattle.pls_top.proofs.program.run.Goals as goal
 
@@ -26,8 +26,11 @@ returns-clause-too_long g c = too_long_exactly _ _ _ _ _ c.serve.ensures.ending
 pub returns-clause-bad_instance : goal.returns-clause-bad_instance
 returns-clause-bad_instance g c = bad_instance_exactly _ _ _ _ _ c.serve.ensures.ending
 
+pub returns-clause-full : goal.returns-clause-full
+returns-clause-full g c = shows_no_free_row _ _ _ _ _ c.serve.ensures.ending
+
 pub returns-clause-complete : goal.returns-clause-complete
-returns-clause-complete g c = complete_answer _ _ _ _ _ c.serve.ensures.ending c.serve.ensures.never_full
+returns-clause-complete g c = complete_answer _ _ _ _ _ c.serve.ensures.ending
 
 pub returns-clause-reads_all : goal.returns-clause-reads_all
 returns-clause-reads_all g c = reads_all _ _ _ _ _ c.serve.ensures.ending
