@@ -95,6 +95,42 @@ compare() {
         }' "$work/ours" "$work/theirs"
 }
 
+# Searches each instance by a program with so many workers, and notes the wall clock time in seconds and how many points the front
+# has. All moves have to be spent, and what is printed with one worker is what the first program printed.
+note_searches() {
+    TIMEFORMAT=%3R
+    for shape in "$work"/instances/*; do
+        { time "$2" search --moves "$moves" --workers "$3" --rows "$rows" < "$shape" > "$work/text" || [ $? -eq 1 ]; } 2> "$work/time"
+        shape=${shape##*/}
+        [ -e "$work/first $shape" ] || cp "$work/text" "$work/first $shape"
+        grep -q "^end stopped .* evaluated $moves " "$work/text" || { echo "$1, $3: moves are left at $shape"; exit 1; }
+        [ "$3" -gt 1 ] || cmp "$work/text" "$work/first $shape" || { echo "$1 has another text at $shape"; exit 1; }
+        echo "$1, $3:$shape:$(cat "$work/time"):$(awk 'NR == 1 { print $2 }' "$work/text")" >> "$work/notes"
+    done
+}
+
+# Prints for each program and instance the least time in milliseconds, its ratio to that of the first program, and how many points
+# the last front had.
+tell_notes() {
+    awk -F : '
+        !($1 in times) { label[++labels] = $1; times[$1] = 0 }
+        !($2 in seen) { shape[++shapes] = $2; seen[$2] }
+        { if (!(($1, $2) in least) || 1000 * $3 < least[$1, $2]) least[$1, $2] = 1000 * $3; points[$1, $2] = $4 }
+        END {
+            line = sprintf("%-24s", "")
+            for (s = 1; s <= shapes; s++) line = line sprintf(" %24s", shape[s])
+            print line
+            for (l = 1; l <= labels; l++) {
+                line = sprintf("%-24s", label[l])
+                for (s = 1; s <= shapes; s++) {
+                    ms = least[label[l], shape[s]]
+                    line = line sprintf(" %9d %7.2f %6d", ms, ms / least[label[1], shape[s]], points[label[l], shape[s]])
+                }
+                print line
+            }
+        }' "$work/notes"
+}
+
 case ${1:-} in
     '')
         for folder in "$here"/*/; do basename "$folder"; done
@@ -116,6 +152,24 @@ case ${1:-} in
         done
         "$here/../plsnd" search < "$here/../examples/two_items.txt" > "$work/text"
         compare 5 "search_each $here/../crates/plsnd/out/plsnd" "search_each $plain"
+        ;;
+    workers)
+        build_program workers
+        build_plain workers
+        "$here/../plsnd" search < "$here/../examples/two_items.txt" > "$work/text"
+        plsnd=$here/../crates/plsnd/out/plsnd
+        moves=${MOVES:-1000000} rows=${ROWS:-65536}
+        mkdir "$work/instances"
+        "$plsnd" make --seed 1 --size 100 --objectives 3 > "$work/instances/100 items, 3 profits"
+        "$plsnd" make --seed 1 --size 256 --objectives 2 > "$work/instances/256 items, 2 profits"
+        "$plsnd" make --seed 1 --kind tour --size 60 --objectives 3 > "$work/instances/60 cities, 3 lengths"
+        for ((i = 0; i < ${RUNS:-5}; i++)); do
+            note_searches "plain Rust" "$plain" 1
+            note_searches "plain Rust, a lock" "$plain" 4
+            for workers in 1 2 4; do note_searches "by turns" "$ours" $workers; done
+            for workers in 1 2 4; do note_searches plsnd "$plsnd" $workers; done
+        done
+        tell_notes
         ;;
     *)
         echo "no folder $1" >&2

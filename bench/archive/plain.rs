@@ -1,10 +1,10 @@
 //! A search over tours in plain Rust, by an ND-tree and by a list, as a yardstick. The walk is that of `perms`.
 #[allow(dead_code)]
 #[path = "../perms/plain.rs"]
-mod perms;
+pub mod perms;
 
 use perms::{Kind, Sol, Tour, Vector};
-use std::cell::Cell;
+use std::sync::atomic::{AtomicUsize, Ordering::Relaxed};
 use std::time::Instant;
 
 const MOVES: u32 = 1_000_000;
@@ -12,9 +12,9 @@ const MOST_IN_LEAF: usize = 20;
 const REMEMBERED: usize = 8;
 
 #[derive(Clone, Copy)]
-struct Point {
-    value: Vector,
-    sol: Sol,
+pub struct Point {
+    pub value: Vector,
+    pub sol: Sol,
 }
 
 impl Vector {
@@ -106,20 +106,21 @@ enum Body {
 }
 
 struct Node {
-    first: Cell<usize>,
+    /// The child that covered lately is asked first.
+    first: AtomicUsize,
     body: Body,
 }
 
 impl Node {
     fn new(body: Body) -> Node {
-        Node { first: Cell::new(0), body }
+        Node { first: AtomicUsize::new(0), body }
     }
 
     fn covering(&self, v: &Vector) -> Option<Vector> {
         match &self.body {
             Body::Leaf(leaf) => leaf.values.iter().find(|w| w.covers(v)).copied(),
             Body::Inner(boxes, children) => {
-                let first = self.first.get().min(children.len() - 1);
+                let first = self.first.load(Relaxed).min(children.len() - 1);
                 for i in 0..children.len() {
                     let k = if i == 0 {
                         first
@@ -136,7 +137,9 @@ impl Node {
                         None
                     };
                     if found.is_some() {
-                        self.first.set(k);
+                        if k != first {
+                            self.first.store(k, Relaxed);
+                        }
                         return found;
                     }
                 }
@@ -152,10 +155,10 @@ impl Node {
         }
     }
 
-    fn count(&self) -> usize {
+    fn gather(&self, into: &mut Vec<Point>) {
         match &self.body {
-            Body::Leaf(leaf) => leaf.values.len(),
-            Body::Inner(_, children) => children.iter().map(Node::count).sum(),
+            Body::Leaf(leaf) => into.extend(leaf.values.iter().zip(&leaf.sols).map(|(&value, &sol)| Point { value, sol })),
+            Body::Inner(_, children) => children.iter().for_each(|child| child.gather(into)),
         }
     }
 
@@ -254,12 +257,12 @@ fn split(leaf: &mut Leaf, objectives: usize) -> Body {
     Body::Inner(boxes, children)
 }
 
-trait Archive {
+pub trait Archive {
     fn covered(&mut self, v: &Vector) -> bool;
     fn member(&self, v: &Vector) -> bool;
     /// Brings in a point that is not covered.
     fn admit(&mut self, p: &Point);
-    fn count(&self) -> usize;
+    fn points(&self) -> Vec<Point>;
 
     /// Submits a point: whether it was brought in.
     fn update(&mut self, p: &Point) -> bool {
@@ -271,50 +274,92 @@ trait Archive {
     }
 }
 
-struct NdTree {
+pub struct Tree {
     objectives: usize,
     root: Node,
-    /// Values that covered lately: each is covered by a member.
-    recent: Vec<Vector>,
-    next: usize,
 }
 
-impl NdTree {
-    fn new(objectives: usize) -> NdTree {
-        NdTree { objectives, root: Node::new(Body::Leaf(Leaf::default())), recent: Vec::new(), next: 0 }
-    }
-}
-
-impl Archive for NdTree {
-    fn covered(&mut self, v: &Vector) -> bool {
-        if self.recent.iter().any(|w| w.covers(v)) {
-            return true;
-        }
-        let Some(w) = self.root.covering(v) else {
-            return false;
-        };
-        if self.recent.len() < REMEMBERED {
-            self.recent.push(w);
-        } else {
-            self.recent[self.next] = w;
-            self.next = (self.next + 1) % REMEMBERED;
-        }
-        true
+impl Tree {
+    pub fn new(objectives: usize) -> Tree {
+        Tree { objectives, root: Node::new(Body::Leaf(Leaf::default())) }
     }
 
-    fn member(&self, v: &Vector) -> bool {
+    /// A value that covers this one, if a member does.
+    pub fn covering(&self, v: &Vector) -> Option<Vector> {
+        self.root.covering(v)
+    }
+
+    pub fn member(&self, v: &Vector) -> bool {
         self.root.has(v)
     }
 
-    fn admit(&mut self, p: &Point) {
+    /// Brings in a point that is not covered.
+    pub fn admit(&mut self, p: &Point) {
         if self.root.remove(&p.value) {
             self.root = Node::new(Body::Leaf(Leaf::default()));
         }
         self.root.insert(p, self.objectives, 0);
     }
 
-    fn count(&self) -> usize {
-        self.root.count()
+    pub fn points(&self) -> Vec<Point> {
+        let mut points = Vec::new();
+        self.root.gather(&mut points);
+        points
+    }
+}
+
+/// Values that covered lately: each is covered by a member.
+#[derive(Default)]
+pub struct Recent {
+    values: Vec<Vector>,
+    next: usize,
+}
+
+impl Recent {
+    /// Whether a member covers the value: the tree is asked where none of these does.
+    pub fn covered(&mut self, v: &Vector, ask: impl FnOnce() -> Option<Vector>) -> bool {
+        if self.values.iter().any(|w| w.covers(v)) {
+            return true;
+        }
+        let Some(w) = ask() else {
+            return false;
+        };
+        if self.values.len() < REMEMBERED {
+            self.values.push(w);
+        } else {
+            self.values[self.next] = w;
+            self.next = (self.next + 1) % REMEMBERED;
+        }
+        true
+    }
+}
+
+pub struct NdTree {
+    tree: Tree,
+    recent: Recent,
+}
+
+impl NdTree {
+    pub fn new(objectives: usize) -> NdTree {
+        NdTree { tree: Tree::new(objectives), recent: Recent::default() }
+    }
+}
+
+impl Archive for NdTree {
+    fn covered(&mut self, v: &Vector) -> bool {
+        self.recent.covered(v, || self.tree.covering(v))
+    }
+
+    fn member(&self, v: &Vector) -> bool {
+        self.tree.member(v)
+    }
+
+    fn admit(&mut self, p: &Point) {
+        self.tree.admit(p);
+    }
+
+    fn points(&self) -> Vec<Point> {
+        self.tree.points()
     }
 }
 
@@ -337,8 +382,8 @@ impl Archive for List {
         self.points.push(*p);
     }
 
-    fn count(&self) -> usize {
-        self.points.len()
+    fn points(&self) -> Vec<Point> {
+        self.points.clone()
     }
 }
 
@@ -419,7 +464,7 @@ fn time<A: Archive>(name: &str, cities: usize, objectives: usize, mut archive: A
     let clock = Instant::now();
     let accepted = search(&tour, &mut archive, &Sol::order(cities));
     let time = clock.elapsed().as_micros();
-    println!("{name}, {cities} cities, {objectives} objectives: {time} : {accepted} {}", archive.count());
+    println!("{name}, {cities} cities, {objectives} objectives: {time} : {accepted} {}", archive.points().len());
 }
 
 fn main() {

@@ -6,8 +6,8 @@ const NEIGHBOURS: u32 = 1_000_000;
 
 #[derive(Clone, Copy)]
 pub struct Sol {
-    len: usize,
-    words: [u64; 32],
+    pub len: usize,
+    pub words: [u64; 32],
 }
 
 impl Sol {
@@ -19,11 +19,11 @@ impl Sol {
         sol
     }
 
-    fn entry(&self, i: usize) -> u8 {
+    pub fn entry(&self, i: usize) -> u8 {
         (self.words[i / 8] >> (8 * (i % 8))) as u8
     }
 
-    fn set(&mut self, i: usize, x: u8) {
+    pub fn set(&mut self, i: usize, x: u8) {
         let shift = 8 * (i % 8);
         self.words[i / 8] = self.words[i / 8] & !(0xff << shift) | (x as u64) << shift;
     }
@@ -45,7 +45,7 @@ impl Sol {
 
 #[derive(Clone, Copy)]
 pub struct Vector {
-    len: usize,
+    pub len: usize,
     pub parts: [i64; 4],
 }
 
@@ -96,9 +96,10 @@ fn table(long: usize, numbers: &[u32]) -> Vec<Sums> {
 }
 
 pub trait Kind {
-    fn walk(&self, sol: &Sol) -> Walk;
-    fn next_value(&self, walk: &mut Walk) -> Option<Vector>;
-    fn solution(&self, walk: &Walk, into: &mut Sol);
+    type Walk;
+    fn walk(&self, sol: &Sol) -> Self::Walk;
+    fn next_value(&self, walk: &mut Self::Walk) -> Option<Vector>;
+    fn solution(&self, walk: &Self::Walk, into: &mut Sol);
 }
 
 struct Assignment {
@@ -114,6 +115,8 @@ impl Assignment {
 }
 
 impl Kind for Assignment {
+    type Walk = Walk;
+
     fn walk(&self, sol: &Sol) -> Walk {
         let mut sums = [0; 4];
         for i in 0..self.agents {
@@ -141,8 +144,8 @@ impl Kind for Assignment {
 }
 
 pub struct Tour {
-    cities: usize,
-    objectives: usize,
+    pub cities: usize,
+    pub objectives: usize,
     table: Vec<Sums>,
 }
 
@@ -162,6 +165,8 @@ impl Tour {
 }
 
 impl Kind for Tour {
+    type Walk = Walk;
+
     fn walk(&self, sol: &Sol) -> Walk {
         let mut cities = [0; 257];
         for i in 0..self.cities {
@@ -244,7 +249,7 @@ fn scattered(n: usize) -> Sol {
     sol
 }
 
-fn time<K: Kind>(name: &str, k: &K, n: usize, objectives: usize) {
+fn time<K: Kind<Walk = Walk>>(name: &str, k: &K, n: usize, objectives: usize) {
     let start = scattered(n);
     let other = vector(&k.walk(&start).sums, objectives);
     let clock = Instant::now();

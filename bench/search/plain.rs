@@ -4,12 +4,12 @@ use std::fmt::Write;
 use std::io::Read;
 
 #[derive(Clone, Copy)]
-struct Sol {
-    words: [u64; 32],
+pub struct Sol {
+    pub words: [u64; 32],
 }
 
 impl Sol {
-    fn bit(&self, i: usize) -> bool {
+    pub fn bit(&self, i: usize) -> bool {
         self.words[i / 64] >> (i % 64) & 1 == 1
     }
 
@@ -24,7 +24,7 @@ impl Sol {
 }
 
 // Places past the objectives are 0.
-type Vector = [i64; 4];
+pub type Vector = [i64; 4];
 
 fn covers(a: &Vector, b: &Vector) -> bool {
     ((a[0] - b[0]) | (a[1] - b[1]) | (a[2] - b[2]) | (a[3] - b[3])) >= 0
@@ -37,25 +37,25 @@ struct Point {
 }
 
 #[derive(Clone, Copy, Default)]
-struct Amounts {
+pub struct Amounts {
     profits: [u32; 4],
     weights: [u32; 8],
 }
 
-struct Knapsack {
-    objectives: usize,
+pub struct Knapsack {
+    pub objectives: usize,
     capacities: [u32; 8],
-    table: Vec<Amounts>,
+    pub table: Vec<Amounts>,
 }
 
 #[derive(Clone, Copy)]
-struct Tally {
+pub struct Tally {
     sol: Sol,
-    values: [u32; 4],
+    pub values: [u32; 4],
     rooms: [u32; 8],
 }
 
-struct Walk {
+pub struct Walk {
     start: Tally,
     flip: usize,
     reduced: Tally,
@@ -82,7 +82,7 @@ fn fit(weights: &[u32; 8], rooms: &[u32; 8]) -> bool {
 }
 
 impl Knapsack {
-    fn read(text: &str) -> Knapsack {
+    pub fn read(text: &str) -> Knapsack {
         let mut words = text.split_ascii_whitespace();
         assert_eq!((words.next(), words.next()), (Some("pls1"), Some("knapsack")));
         let mut number = || words.next().unwrap().parse::<u32>().unwrap();
@@ -104,7 +104,7 @@ impl Knapsack {
         k
     }
 
-    fn tally(&self, sol: &Sol) -> Tally {
+    pub fn tally(&self, sol: &Sol) -> Tally {
         let mut tally = Tally { sol: *sol, values: [0; 4], rooms: self.capacities };
         for (item, amounts) in self.table.iter().enumerate() {
             if sol.bit(item) {
@@ -115,7 +115,7 @@ impl Knapsack {
         tally
     }
 
-    fn greedy(&self, order: &[usize]) -> Sol {
+    pub fn greedy(&self, order: &[usize]) -> Sol {
         let mut sol = Sol { words: [0; 32] };
         let mut rooms = self.capacities;
         for item in order {
@@ -127,7 +127,7 @@ impl Knapsack {
         sol
     }
 
-    fn walk(&self, sol: &Sol) -> Walk {
+    pub fn walk(&self, sol: &Sol) -> Walk {
         let start = self.tally(sol);
         Walk { start, flip: 0, reduced: start, put: self.table.len(), take: 0, item: 0, is_flip: true }
     }
@@ -163,7 +163,7 @@ impl Knapsack {
         }
     }
 
-    fn next_value(&self, walk: &mut Walk) -> Option<Vector> {
+    pub fn next_value(&self, walk: &mut Walk) -> Option<Vector> {
         let (is_flip, item) = self.find(walk)?;
         walk.is_flip = is_flip;
         walk.item = item;
@@ -177,19 +177,24 @@ impl Knapsack {
         Some(values.map(i64::from))
     }
 
-    fn solution(&self, walk: &Walk) -> Sol {
+    pub fn solution(&self, walk: &Walk) -> Sol {
         let base = if walk.is_flip { &walk.start.sol } else { &walk.reduced.sol };
         let mut sol = *base;
         sol.set(walk.item, !base.bit(walk.item));
         sol
     }
+
+    /// The items that a choice has.
+    pub fn chosen(&self, sol: &Sol) -> Vec<usize> {
+        (0..self.table.len()).filter(|item| sol.bit(*item)).collect()
+    }
 }
 
 // Xoshiro256++, seeded by SplitMix64.
-struct Words([u64; 4]);
+pub struct Words([u64; 4]);
 
 impl Words {
-    fn seeded(mut seed: u64) -> Words {
+    pub fn seeded(mut seed: u64) -> Words {
         Words([0; 4].map(|_: u64| {
             seed = seed.wrapping_add(0x9e37_79b9_7f4a_7c15);
             let z = (seed ^ seed >> 30).wrapping_mul(0xbf58_476d_1ce4_e5b9);
@@ -198,7 +203,7 @@ impl Words {
         }))
     }
 
-    fn next(&mut self) -> u64 {
+    pub fn next(&mut self) -> u64 {
         let s = &mut self.0;
         let word = s[0].wrapping_add(s[3]).rotate_left(23).wrapping_add(s[0]);
         let t = s[1] << 17;
@@ -212,16 +217,48 @@ impl Words {
     }
 }
 
-fn shuffled(words: &mut Words, items: usize) -> Vec<usize> {
-    let mut order: Vec<usize> = (0..items).collect();
-    for left in (1..items).rev() {
-        order.swap(left, (words.next() % (left as u64 + 1)) as usize);
+/// The order 0, 1, .., shuffled from the least place on.
+pub fn shuffled(words: &mut Words, size: usize, least: usize) -> Vec<usize> {
+    let mut order: Vec<usize> = (0..size).collect();
+    for left in (1..size - least).rev() {
+        order.swap(least + left, least + (words.next() % (left as u64 + 1)) as usize);
     }
     order
 }
 
+#[derive(Default)]
+pub struct Counts {
+    pub explored: u64,
+    pub evaluated: u64,
+    pub accepted: u64,
+}
+
+/// The text of a search, from the value of each member and what its solution shows.
+pub fn text(kind: &str, objectives: usize, mut front: Vec<(Vector, Vec<usize>)>, whole: bool, counts: &Counts) -> String {
+    front.sort_by_key(|member| member.0);
+    let mut text = format!("front {} {kind} {objectives}\n", front.len());
+    for (value, shown) in &front {
+        // Costs are negative here.
+        for part in &value[..objectives] {
+            write!(text, "{} ", part.abs()).unwrap();
+        }
+        text.push(':');
+        if shown.is_empty() {
+            text.push_str(" -");
+        }
+        for number in shown {
+            write!(text, " {number}").unwrap();
+        }
+        text.push('\n');
+    }
+    let end = if whole { "closed" } else { "stopped" };
+    let Counts { explored, evaluated, accepted } = counts;
+    writeln!(text, "end {end} explored {explored} evaluated {evaluated} accepted {accepted}").unwrap();
+    text
+}
+
 fn search(k: &Knapsack, moves: u64) -> String {
-    let start = k.greedy(&shuffled(&mut Words::seeded(1), k.table.len()));
+    let start = k.greedy(&shuffled(&mut Words::seeded(1), k.table.len(), 0));
     let first = Point { value: k.tally(&start).values.map(i64::from), sol: start };
     let (mut archive, mut tasks) = (vec![first], vec![first]);
     let (mut left, mut explored, mut next, mut whole) = (moves, 0, 0, true);
@@ -247,24 +284,9 @@ fn search(k: &Knapsack, moves: u64) -> String {
         }
         explored += 1;
     }
-    archive.sort_by_key(|point| point.value);
-    let mut text = format!("front {} knapsack {}\n", archive.len(), k.objectives);
-    for point in &archive {
-        for part in &point.value[..k.objectives] {
-            write!(text, "{part} ").unwrap();
-        }
-        text.push(':');
-        if !(0..k.table.len()).any(|item| point.sol.bit(item)) {
-            text.push_str(" -");
-        }
-        for item in (0..k.table.len()).filter(|item| point.sol.bit(*item)) {
-            write!(text, " {item}").unwrap();
-        }
-        text.push('\n');
-    }
-    let end = if whole { "closed" } else { "stopped" };
-    writeln!(text, "end {end} explored {explored} evaluated {} accepted {}", moves - left, tasks.len()).unwrap();
-    text
+    let front = archive.iter().map(|point| (point.value, k.chosen(&point.sol))).collect();
+    let counts = Counts { explored, evaluated: moves - left, accepted: tasks.len() as u64 };
+    text("knapsack", k.objectives, front, whole, &counts)
 }
 
 // An instance of which about half the items fit.
