@@ -6,6 +6,9 @@ use Rattle.std.proofs.lemmas.Bool.{or_left}
 use Rattle.era_core.specs.Lists.{In}
 use Rattle.era_core.specs.Versions.{Copy}
 use Rattle.era_core.proofs.ListFacts.{in_tail, in-append_right}
+use Rattle.pls_archive.specs.declared.point.Point.{Point}
+use Rattle.pls_archive.specs.Lists as lists
+use Rattle.pls_archive.proofs.Every.{In-right}
 use Rattle.nd_rows.specs.declared.question.Question.{Question}
 use Rattle.nd_rows.specs.Nodes.{Nodes, no_nodes, leaf, inner, rows_with, points_of, followed_by, is_mixed, necessary}
 use Rattle.nd_rows.specs.Walk.{meets, some_meets, Asks, Asked, AreOnList, AreLeft, points_below, kids_of, later_of, is_open}
@@ -16,6 +19,12 @@ points_first : (ns : Nodes) → points_of ns ≡ points_below ns ++ points_of (l
 points_first no_nodes = refl
 points_first (leaf r b placed later) = refl
 points_first (inner r b kids later) = refl
+
+kids_same : (ns : Nodes) → points_below ns ≡ points_of (kids_of ns) → points_of (followed_by (kids_of ns) (later_of ns)) ≡ points_of ns
+kids_same ns same = followed.points-followed (kids_of ns) (later_of ns) ∙ ap (λ points. points ++ points_of (later_of ns)) (sym same) ∙ sym (points_first ns)
+
+later_below : (ns : Nodes) (p : Point) → lists.In p (points_of (later_of ns)) → lists.In p (points_of ns)
+later_below ns p here = subst (lists.In p) (sym (points_first ns)) (In-right p (points_below ns) (points_of (later_of ns)) here)
 
 module _ (v : List ℤ) where
   later_necessary : (ns : Nodes) (x : ℕ) → In x (necessary v (later_of ns)) → In x (necessary v ns)
@@ -32,7 +41,7 @@ module _ (v : List ℤ) where
 module _ (objectives : ℕ) (c : Copy) (ask : Question) (v : List ℤ) where
   -- at the start
   pub asked_none : (rows : ℕ) (work : List ℕ) (ns : Nodes) → AreOnList objectives c rows work ns → Asked objectives c ask v ns 0 work
-  asked_none rows work ns is = record { left = ns; are_left = left_first objectives c rows work ns is; same_answer = refl; needed = λ x here. here }
+  asked_none rows work ns is = record { left = ns; are_left = left_first objectives c rows work ns is; same_answer = refl; needed = λ x here. here; below = λ p here. here }
 
   module _ (ns : Nodes) (k : ℕ) (work : List ℕ) (asked : Asked objectives c ask v ns k work) where
     -- nothing is left
@@ -61,13 +70,13 @@ module _ (objectives : ℕ) (c : Copy) (ask : Question) (v : List ℤ) where
             ∙ ap (λ b. b || some_meets ask (points_of (later_of asked.left)) v) (asks.0 ∙ not_yes))
             ∙ asked.same_answer;
         needed = λ x here. asked.needed x (later_necessary v asked.left x here);
+        below = λ p here. asked.below p (later_below asked.left p here);
       }
       asked_more None after not_yes asks = record {
         left = followed_by (kids_of asked.left) (later_of asked.left);
         are_left = left_kids objectives c ns k work asked.left asked.are_left row rest top after asks.2;
         same_answer =
-            ap (λ points. some_meets ask points v)
-            (followed.points-followed (kids_of asked.left) (later_of asked.left) ∙ ap (λ points. points ++ points_of (later_of asked.left)) (sym asks.0) ∙ sym (points_first asked.left))
-            ∙ asked.same_answer;
+            ap (λ points. some_meets ask points v) (kids_same asked.left asks.0) ∙ asked.same_answer;
         needed = λ x here. asked.needed x (kids_necessary v asked.left asks.1 x here);
+        below = λ p here. asked.below p (subst (lists.In p) (kids_same asked.left asks.0) here);
       }

@@ -6,6 +6,8 @@ pub mod Pending
 pub mod Following
 pub mod Left
 pub mod Asking
+pub mod Finding
+pub mod FoundPoints
 pub mod Gathering
 pub mod Links
 pub mod PointRows

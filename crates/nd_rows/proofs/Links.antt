@@ -1,12 +1,12 @@
 -- Links that are put on the work list, and points that are asked one by one.
-use Rattle.std.proofs.Common.{◌≡◌, ℕ, zero, suc, ◌+◌, ◌-◌, ◌<◌, Bool, true, false, Option, Some, None, List, [], ◌∷◌, ◌++◌, length, drop, get_or, reverse, refl, sym, ap, ap₂, ◌∙◌, arith, append_assoc, drop-cons, ℤ}
+use Rattle.std.proofs.Common.{◌≡◌, ℕ, zero, suc, ◌+◌, ◌-◌, ◌<◌, inl, inr, Bool, true, false, Option, Some, None, List, [], ◌∷◌, ◌++◌, length, drop, get_or, reverse, refl, sym, ap, ap₂, ◌∙◌, arith, append_assoc, drop-cons, ℤ}
 use Rattle.std.specs.Prelude.{◌&&◌, if◌then◌else◌, if◌then◌else◌, ◌||◌}
 use Rattle.std.proofs.lemmas.Bool.{or_left}
 use Rattle.std.proofs.lemmas.List.{reverse-append, drop_all}
 use Rattle.era_core.specs.Versions.{Cell}
 use Rattle.pls_vectors.specs.Dominance.{weakly_dominates}
 use Rattle.pls_archive.specs.declared.point.Point.{Point}
-use Rattle.pls_archive.specs.Lists.{Every}
+use Rattle.pls_archive.specs.Lists.{Every, In}
 use Rattle.nd_rows.specs.declared.question.Question.{Question}
 use Rattle.nd_rows.specs.declared.question.Question.TheVariants.{Covers, Equals}
 use Rattle.nd_rows.specs.Nodes.{Placed, rows_with, points_with}
@@ -27,12 +27,12 @@ push_more links rest work after count k x all low now before is =
 
 -- the point at a place of those that a leaf links
 pub placed_at : (objectives : ℕ) (cells : List Cell) (placed : List Placed) → Every (IsPointRow objectives cells) placed → (k : ℕ) → k < length placed
-    → (p : Placed) × (drop k placed ≡ p ∷ drop (k + 1) placed) × IsPointRow objectives cells p × (get_or (rows_with placed) k 0 ≡ p.row)
+    → (p : Placed) × (drop k placed ≡ p ∷ drop (k + 1) placed) × IsPointRow objectives cells p × (get_or (rows_with placed) k 0 ≡ p.row) × In p.point (points_with placed)
 placed_at objectives cells [] each k low = absurd (omega arith)
-placed_at objectives cells (p ∷ placed) each zero low = (p, refl, each.0, refl)
+placed_at objectives cells (p ∷ placed) each zero low = (p, refl, each.0, refl, inl refl)
 placed_at objectives cells (p ∷ placed) each (suc k) low =
     let rest = placed_at objectives cells placed each.1 k (omega arith) in
-    (rest.0, rest.1 ∙ ap (λ n. rest.0 ∷ drop n (p ∷ placed)) (let e : suc (k + 1) ≡ suc k + 1 = omega arith in e), rest.2, rest.3)
+    (rest.0, rest.1 ∙ ap (λ n. rest.0 ∷ drop n (p ∷ placed)) (let e : suc (k + 1) ≡ suc k + 1 = omega arith in e), rest.2, rest.3, inr rest.4)
 
 -- what the side of a point's value tells
 abbrev both : Question → Bool → Bool → Bool

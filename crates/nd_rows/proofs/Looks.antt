@@ -42,7 +42,7 @@ reads_one k after r p i w near place now = record {
 }
 
 -- words were read, and then others, all in these rows
-reads_both : (all first second : List ℕ) (k mid after : Known) → ((x : ℕ) → In x first → In x all) → ((x : ℕ) → In x second → In x all) → ReadsIn first k mid → ReadsIn second mid after → ReadsIn all k after
+pub reads_both : (all first second : List ℕ) (k mid after : Known) → ((x : ℕ) → In x first → In x all) → ((x : ℕ) → In x second → In x all) → ReadsIn first k mid → ReadsIn second mid after → ReadsIn all k after
 reads_both all first second k mid after in_first in_second one two = record {
   more = one.more ++ two.more;
   last = two.last;
@@ -58,6 +58,10 @@ reads_both all first second k mid after in_first in_second one two = record {
       (is.0, is.1, in_second is.0 is.2, is.3, is.4))
       (at_append one.more two.more i l there);
 }
+
+-- one row alone
+pub in_only : (all : List ℕ) (x row : ℕ) → In row all → In x (row ∷ []) → In x all
+in_only all x row there here = ⊎_elim (λ e. subst (λ y. In y all) (sym e) there) (λ none. absurd (let nothing : In x [] = none in omega arith)) (in_cases x row [] here)
 
 module _ {L E : Type 0} {G : Ghosts L E} (r : Rows L E) where
   pub looks_none : (all : List ℕ) (p : Pass L E G) → IsPassOf r p → LooksIn r all p p
@@ -160,7 +164,7 @@ module _ {L E : Type 0} {G : Ghosts L E} (r : Rows L E) where
   -- a look at one row among these
   pub looks_at : (all : List ℕ) (p q : Pass L E G) (row : ℕ) → In row all → LooksIn r (row ∷ []) p q → LooksIn r all p q
   looks_at all p q row in_all one =
-      looks_among all (row ∷ []) p q (λ x here. ⊎_elim (λ e. subst (λ y. In y all) (sym e) in_all) (λ none. absurd (let nothing : In x [] = none in omega arith)) (in_cases x row [] here)) one
+      looks_among all (row ∷ []) p q (λ x here. in_only all x row in_all here) one
 
   -- a look at one row, and then at another
   pub looks_two : (all : List ℕ) (p q s t : Pass L E G) (a b : ℕ) → In a all → In b all → LooksIn r all p q → LooksIn r (a ∷ []) q s → LooksIn r (b ∷ []) s t → LooksIn r all p t

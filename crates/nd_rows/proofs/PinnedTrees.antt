@@ -1,20 +1,22 @@
 -- The tree that a pass has pinned, at the start of a question and after it.
-use Rattle.std.proofs.Common.{◌≡◌, ℕ, ◌≤◌, Some, List, [], ◌∷◌, ◌++◌, length, reverse, take, sym, ap, subst, ◌∙◌, arith, ℤ}
+use Rattle.std.proofs.Common.{◌≡◌, ℕ, ◌≤◌, Option, Some, None, List, [], ◌∷◌, ◌++◌, length, reverse, take, sym, ap, subst, ◌∙◌, arith, ℤ}
+use Rattle.std.specs.Prelude.{IfSome}
 use Rattle.std.proofs.lemmas.Option.{same_Some}
 use Rattle.era_core.specs.Lists.{In}
 use Rattle.era_core.specs.Versions.{Copy}
 use Rattle.era_core.proofs.Room.{length-below}
 use Rattle.era_rows.specs.Known.{Known, pinned_copy}
-use Rattle.era_rows.specs.Passes.{known_of, knows_of, seen_of, marked_of, memory_of, work_of, IsPassOf, HasSame}
+use Rattle.era_rows.specs.Passes.{known_of, knows_of, seen_of, marked_of, memory_of, work_of, IsPassOf}
 use Rattle.era_rows.specs.declared.pass.Pass.{Pass}
 use Rattle.era_rows.specs.declared.rows.Rows.{Rows}
 use Rattle.era_rows.specs.declared.law.Law.{Ghosts}
 use Rattle.pls_archive.specs.declared.call.Entry.{Entry}
-use Rattle.nd_rows.specs.Nodes.{Nodes, rows_of, necessary}
+use Rattle.nd_rows.specs.Nodes.{Nodes, rows_of, points_of, necessary}
 use Rattle.nd_rows.specs.Layout.{IsTreeOf, StandsFor}
-use Rattle.nd_rows.specs.Reads.{LooksIn, ReadsNecessary, HasPinnedTree}
-use Rattle.nd_rows.specs.Walk.{ArePending, AreOnList}
-use Rattle.nd_rows.proofs.Looks.{looks_more, looks_work, has_same, same_copy, stays}
+use Rattle.nd_rows.specs.Reads.{ReadsIn, LooksIn, HasPinnedTree}
+use Rattle.nd_rows.specs.Walk.{ArePending, AreOnList, IsRowOf, Finds}
+use Rattle.nd_rows.proofs.Looks.{looks_more, looks_work, same_copy}
+use Rattle.nd_rows.proofs.Finding.{found_first}
 
 -- the nodes of a tree are pending
 tree_pending : (objectives : ℕ) (c : Copy) (t : Nodes) → IsTreeOf objectives c t → ArePending objectives c t
@@ -60,20 +62,27 @@ module _ {L : Type 0} {G : Ghosts L Entry} (r : Rows L Entry) (v : List ℤ) (n 
     pub all_looks : LooksIn r (necessary v tree.stands.0) p s
     all_looks = looks_more r (necessary v tree.stands.0) p q s begins.looks looks
 
-    pub all_reads : ReadsNecessary r.shape v (known_of p) (known_of s)
-    all_reads = (tree.stands.0, tree.stands.1, all_looks.reads)
+  -- a point that it found is below the root
+  pub all_finds : (q : Pass L Entry G) → HasBegun r v p q tree.stands.0 → (after : Option ℕ) → Finds (length v) (pinned_copy (known_of q)) (necessary v tree.stands.0) (points_of tree.stands.0) None after
+      → IfSome after (IsRowOf r.shape (pinned_copy (known_of p)) (necessary v tree.stands.0) (points_of tree.stands.0))
+  all_finds q begins after finds =
+      let all = necessary v tree.stands.0 in
+      let points = points_of tree.stands.0 in
+      found_first r.shape (pinned_copy (known_of p)) all points after
+      (subst (λ (m : ℕ). Finds m (pinned_copy (known_of p)) all points None after) parts (subst (λ (c : Copy). Finds (length v) c all points None after) (same_copy r all p q begins.looks) finds))
 
-    pub all_same : work_of s ≡ [] → work_of p ≡ [] → HasSame p s
-    all_same done idle = has_same r (necessary v tree.stands.0) p s all_looks (done ∙ sym idle)
+-- after readings the same version is pinned
+pub pinned_after : {L : Type 0} {G : Ghosts L Entry} (r : Rows L Entry) (all : List ℕ) (p q : Pass L Entry G) → IsPassOf r q → ReadsIn all (known_of p) (known_of q) → seen_of q ≡ seen_of p → (n : ℕ) → HasPinnedTree r n p → HasPinnedTree r n q
+pinned_after r all p q is_pass reads seen n tree =
+    let copy = ap (λ (k : Known). pinned_copy k) reads.now in record {
+      is_pass = is_pass;
+      root = tree.root;
+      pinned = ap (λ (k : Known). k.core.pinned) reads.now ∙ tree.pinned;
+      rooted = ap (λ (c : Copy). c.root) copy ∙ tree.rooted;
+      stands =
+          subst (λ (entries : List Entry). StandsFor r.shape (pinned_copy (known_of q)) (take n entries)) (sym seen)
+          (subst (λ (c : Copy). StandsFor r.shape c (take n (seen_of p))) (sym copy) tree.stands);
+    }
 
--- after looks the same version is pinned
 pub still_pinned : {L : Type 0} {G : Ghosts L Entry} (r : Rows L Entry) (all : List ℕ) (p q : Pass L Entry G) → LooksIn r all p q → (n : ℕ) → HasPinnedTree r n p → HasPinnedTree r n q
-still_pinned r all p q looks n tree = record {
-  is_pass = looks.is_pass;
-  root = tree.root;
-  pinned = ap (λ (k : Known). k.core.pinned) looks.reads.now ∙ tree.pinned;
-  rooted = ap (λ (c : Copy). c.root) (same_copy r all p q looks) ∙ tree.rooted;
-  stands =
-      subst (λ (entries : List Entry). StandsFor r.shape (pinned_copy (known_of q)) (take n entries)) (sym looks.same_seen)
-      (stays r (λ (c : Copy). StandsFor r.shape c (take n (seen_of p))) all p q looks tree.stands);
-}
+still_pinned r all p q looks n tree = pinned_after r all p q looks.is_pass looks.reads looks.same_seen n tree

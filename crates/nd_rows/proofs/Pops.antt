@@ -1,5 +1,5 @@
 -- The last node is taken off the work list: what a pass finds there, and what asking it leaves.
-use Rattle.std.proofs.Common.{◌≡◌, ℕ, ◌+◌, ◌-◌, ◌*◌, ◌<◌, ◌≤◌, Bool, true, false, Option, List, ◌∷◌, length, take, reverse, sym, ap, ◌∙◌, arith, ℤ}
+use Rattle.std.proofs.Common.{◌≡◌, ℕ, ◌+◌, ◌-◌, ◌*◌, ◌<◌, ◌≤◌, Bool, true, false, Option, List, ◌∷◌, length, take, reverse, sym, ap, subst, ◌∙◌, arith, ℤ}
 use Rattle.std.specs.Prelude.{unwrap_or}
 use Rattle.era_core.specs.Versions.{Copy}
 use Rattle.era_rows.specs.Known.{pinned_copy}
@@ -10,11 +10,12 @@ use Rattle.era_rows.specs.declared.law.Law.{Ghosts}
 use Rattle.nd_rows.specs.declared.question.Question.{Question}
 use Rattle.nd_rows.specs.Nodes.{Nodes, heads, rows_of, points_of, necessary}
 use Rattle.nd_rows.specs.Reads.{LooksIn}
-use Rattle.nd_rows.specs.Walk.{some_meets, BeginAt, AreLeft, Asked, Asks, kids_of}
-use Rattle.nd_rows.proofs.Looks.{looks_more, looks_among, looks_work, stays, row_small}
+use Rattle.nd_rows.specs.Walk.{some_meets, BeginAt, AreLeft, Asked, Asks, Finds, kids_of}
+use Rattle.nd_rows.proofs.Looks.{looks_more, looks_among, looks_work, same_copy, stays, row_small}
 use Rattle.nd_rows.proofs.Pending.{row_among}
 use Rattle.nd_rows.proofs.Left.{from_end, left_at, left_room}
 use Rattle.nd_rows.proofs.Asking.{asked_yes, asked_more}
+use Rattle.nd_rows.proofs.Finding.{finds_among}
 use mathlib.Core.Option.{some}
 use lib.ListN.{get_elem?}
 
@@ -51,6 +52,12 @@ module _ {L E : Type 0} {G : Ghosts L E} (r : Rows L E) (ask : Question) (v : Li
     (one : LooksIn r (necessary v so_far.left) s t) (result : Option Bool) (asks : Asks ask v so_far.left result (work_of s) (work_of t)) where
   pub pop_looks : LooksIn r (necessary v ns) p t
   pop_looks = looks_more r (necessary v ns) p s t popped.looks (looks_among r (necessary v ns) (necessary v so_far.left) s t so_far.needed one)
+
+  pub pop_finds : (before after : Option ℕ) → Finds (length v) (pinned_copy (known_of s)) (necessary v so_far.left) (points_of so_far.left) before after
+      → Finds (length v) (pinned_copy (known_of p)) (necessary v ns) (points_of ns) before after
+  pop_finds before after finds =
+      finds_among (length v) (pinned_copy (known_of p)) (necessary v so_far.left) (necessary v ns) (points_of so_far.left) (points_of ns) so_far.needed so_far.below before after
+      (subst (λ (c : Copy). Finds (length v) c (necessary v so_far.left) (points_of so_far.left) before after) (same_copy r (necessary v ns) p s popped.looks) finds)
 
   pub pop_yes : unwrap_or result false ≡ true → true ≡ some_meets ask (points_of ns) v
   pop_yes is_yes = asked_yes (length v) (pinned_copy (known_of p)) ask v ns k (work_of q) so_far row (work_of s) popped.top result (work_of t) is_yes asks

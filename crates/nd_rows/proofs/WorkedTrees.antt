@@ -1,13 +1,15 @@
--- The definitions on two small trees: a leaf of two points, and an inner node of two leaves.
-use Rattle.std.proofs.Common.{◌≡◌, ℕ, ◌+◌, List, [], ◌∷◌, ◌++◌, map, get_or, refl, ap, arith, ℤ, pos}
+-- The definitions on two small trees: a leaf of two points, and an inner node of two leaves. And on the words that a pass remembers.
+use Rattle.std.proofs.Common.{◌≡◌, ℕ, ◌+◌, ◌^◌, true, false, Some, None, List, [], ◌∷◌, ◌++◌, map, get_or, refl, ap, arith, ℤ, pos}
 use Rattle.std.specs.Prelude.{replicate}
 use Rattle.std.proofs.lemmas.Option.{same_Some}
 use Rattle.era_core.specs.Versions.{Cell}
+use Rattle.era_rows.specs.Memory.{Memory}
 use Rattle.pls_vectors.specs.Box.{Box}
 use Rattle.pls_vectors.specs.Solution.{no_items}
 use Rattle.pls_vectors.specs.Word.{to_word}
 use Rattle.pls_archive.specs.declared.point.Point.{Point}
 use Rattle.nd_rows.specs.Nodes.{Placed, Nodes, no_nodes, leaf, inner, heads, rows_of, points_of, AreApart, necessary}
+use Rattle.nd_rows.specs.Entries.{memory_words, recalls_value}
 use Rattle.nd_rows.specs.Layout.{HasWords, HasValue, IsLinkRow, IsPointRow}
 use Rattle.nd_rows.specs.Walk.{Gathers}
 
@@ -108,3 +110,19 @@ is_point = record {
 -- its parts do not stand in another order
 other_order : HasWords point_cells 1 1 (map to_word (value 1 3)) → ⊥
 other_order there = let same : ◌≡◌ {A = ℕ} 1099511627779 1099511627777 = same_Some _ _ there.0 in omega arith
+
+-- a pass that remembers (3, 1), and nothing else, recalls (2, 1) and no value with a greater part
+words_remembered : memory_words (value 3 1) ≡ (2 ^ 40 + 3) ∷ (2 ^ 40 + 1) ∷ 0 ∷ 0 ∷ 0 ∷ 0 ∷ []
+words_remembered = refl
+
+abbrev memory : Memory
+memory = None ∷ Some (memory_words (value 3 1)) ∷ []
+
+value_recalled : recalls_value memory (value 2 1) ≡ true
+value_recalled = refl
+
+value_not_recalled : recalls_value memory (value 2 2) ≡ false
+value_not_recalled = refl
+
+value_of_other_parts : recalls_value memory (pos 2 ∷ pos 1 ∷ pos 0 ∷ []) ≡ false
+value_of_other_parts = refl

@@ -1,6 +1,10 @@
 -- Which entries are right at a shared ND-tree, and what the words say that a pass remembers.
-use Rattle.std.specs.Prelude.{◌≡◌, ℕ, Bool, List, map, take, length}
-use Rattle.pls_vectors.specs.Word.{from_word}
+use Rattle.std.specs.Prelude.{◌≡◌, ℕ, ℤ, ◌-◌, Bool, false, Option, Some, None, List, ◌++◌, map, take, length, replicate}
+use Rattle.std.specs.List.{list_any}
+use Rattle.era_rows.specs.Memory.{Memory}
+use Rattle.era_rows.specs.declared.memory.TheConstants.{MEMORY_WORDS}
+use Rattle.pls_vectors.specs.Dominance.{weakly_dominates}
+use Rattle.pls_vectors.specs.Word.{to_word, from_word}
 use Rattle.pls_archive.specs.declared.call.Call.{Call}
 use Rattle.pls_archive.specs.declared.call.Call.TheVariants.{Update, Covered, Member, Snapshot}
 use Rattle.pls_archive.specs.declared.call.Entry.{Entry}
@@ -24,6 +28,19 @@ pub record IsRight (objectives : ℕ) (e : Entry) (entries : List Entry) : Type 
 -- the first words are those of the value of a point that was submitted
 abbrev pub is_submitted : ℕ → List ℕ → List Entry → Bool
 is_submitted objectives words entries = has_value (submissions entries) (map from_word (take objectives words))
+
+-- the words of the parts of a value, and 0 at each place past them
+abbrev pub memory_words : List ℤ → List ℕ
+memory_words v = map to_word v ++ replicate (MEMORY_WORDS - length v) 0
+
+-- what is remembered at a place are the words of a value that weakly dominates this one
+abbrev pub held_covers : List ℤ → Option (List ℕ) → Bool
+held_covers v None = false
+held_covers v (Some words) = weakly_dominates (map from_word (take (length v) words)) v
+
+-- that is so at some place
+abbrev pub recalls_value : Memory → List ℤ → Bool
+recalls_value memory v = list_any (held_covers v) memory
 
 -- the entry of a point that was added
 abbrev pub added : ℕ → ℕ → Point → ℕ → Entry

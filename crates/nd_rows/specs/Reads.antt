@@ -4,7 +4,7 @@ use Rattle.era_core.specs.declared.sizes.TheConstants.{WIDTH}
 use Rattle.era_core.specs.Lists.{In}
 use Rattle.era_core.specs.Words.{cell_at}
 use Rattle.era_rows.specs.Known.{Known, Look, pinned_copy}
-use Rattle.era_rows.specs.Passes.{known_of, seen_of, lists_of, marked_of, memory_of, IsPassOf}
+use Rattle.era_rows.specs.Passes.{known_of, seen_of, lists_of, marked_of, memory_of, work_of, IsPassOf}
 use Rattle.era_rows.specs.declared.pass.Pass.{Pass}
 use Rattle.era_rows.specs.declared.rows.Rows.{Rows}
 use Rattle.era_rows.specs.declared.law.Law.{Ghosts}
@@ -32,6 +32,14 @@ module _ {L E : Type 0} {G : Ghosts L E} where
     pub reads : ReadsIn rows (known_of p) (known_of q)
     pub same_number : q.number ≡ p.number
     pub same_memory : memory_of q ≡ memory_of p
+    pub same_marks : marked_of q ≡ marked_of p
+    pub same_seen : seen_of q ≡ seen_of p
+    pub same_lists : lists_of q ≡ lists_of p
+
+  -- the pass has the work list, the marks and the entries that it had, and may remember other words
+  pub record HasKept (p q : Pass L E G) : Type 0 where
+    pub same_number : q.number ≡ p.number
+    pub same_work : work_of q ≡ work_of p
     pub same_marks : marked_of q ≡ marked_of p
     pub same_seen : seen_of q ≡ seen_of p
     pub same_lists : lists_of q ≡ lists_of p

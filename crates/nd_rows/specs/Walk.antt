@@ -5,13 +5,13 @@ use Rattle.era_core.specs.Versions.{Copy}
 use Rattle.pls_vectors.specs.Box.{Box}
 use Rattle.pls_vectors.specs.Dominance.{weakly_dominates}
 use Rattle.pls_archive.specs.declared.point.Point.{Point}
-use Rattle.pls_archive.specs.Lists.{Every}
+use Rattle.pls_archive.specs.Lists as lists
 use Rattle.nd_rows.specs.declared.question.Question.{Question}
 use Rattle.nd_rows.specs.declared.question.Question.TheVariants.{Covers, Equals}
 use Rattle.std.specs.List.{list_any}
 use Rattle.nd_rows.specs.declared.layout.TheConstants.{FIRST_LINK}
 use Rattle.nd_rows.specs.Nodes.{Placed, Nodes, no_nodes, leaf, inner, heads, rows_of, rows_with, points_of, points_with, AreBoxed, AreFormed, IsEmptyLeaf, is_mixed, necessary}
-use Rattle.nd_rows.specs.Layout.{HasWords, IsPointRow, AreWritten}
+use Rattle.nd_rows.specs.Layout.{HasWords, IsPointRow, HasPoint, AreWritten}
 
 -- one more pair of parts was compared, which may be equal
 abbrev pub with_equal : Bool → Option Bool → Option Bool
@@ -64,7 +64,7 @@ box_told Equals b v = equal_answer (sided v b.nadir) (sided b.ideal v)
 -- the row links these points, which are in the copy
 pub record HasPlaced (objectives : ℕ) (c : Copy) (row : ℕ) (placed : List Placed) : Type 0 where
   pub linked : HasWords c.cells row FIRST_LINK (rows_with placed)
-  pub points : Every (IsPointRow objectives c.cells) placed
+  pub points : lists.Every (IsPointRow objectives c.cells) placed
   pub among : (x : ℕ) → In x (rows_with placed) → In x c.rows
   pub few : length placed ≤ 38
 
@@ -121,12 +121,24 @@ pub record AreLeft (objectives : ℕ) (c : Copy) (ns : Nodes) (k : ℕ) (work : 
   pub on_list : heads left ≡ reverse work
   pub counted : length (rows_of left) + k ≤ length (rows_of ns)
 
--- After k nodes were asked, those that are left answer the question as those at the start do, and need no other rows
+-- the row has one of these points, and is one of these rows
+pub record IsRowOf (objectives : ℕ) (c : Copy) (rows : List ℕ) (points : List Point) (row : ℕ) : Type 0 where
+  pub point : Point
+  pub has : HasPoint objectives c row point
+  pub needed : In row rows
+  pub among : lists.In point points
+
+-- the row that is found is what it was before, or such a row
+abbrev pub Finds : ℕ → Copy → List ℕ → List Point → Option ℕ → Option ℕ → Type 0
+Finds objectives c rows points before after = (after ≡ before) ⊎ ((row : ℕ) × (after ≡ Some row) × IsRowOf objectives c rows points row)
+
+-- After k nodes were asked, those that are left answer the question as those at the start do, and have and need no other rows
 pub record Asked (objectives : ℕ) (c : Copy) (ask : Question) (v : List ℤ) (ns : Nodes) (k : ℕ) (work : List ℕ) : Type 0 where
   pub left : Nodes
   pub are_left : AreLeft objectives c ns k work left
   pub same_answer : some_meets ask (points_of left) v ≡ some_meets ask (points_of ns) v
   pub needed : (x : ℕ) → In x (necessary v left) → In x (necessary v ns)
+  pub below : (p : Point) → lists.In p (points_of left) → lists.In p (points_of ns)
 
 -- the points that a leaf has itself
 abbrev pub own_points : Nodes → List Point

@@ -71,7 +71,7 @@ fn read_parts(rows: &Rows<NdLaw>, pass: &mut Pass<NdLaw>, row: u32, len: usize) 
 }
 
 // The value of the point in a row.
-fn read_value(rows: &Rows<NdLaw>, pass: &mut Pass<NdLaw>, row: u32) -> Vector
+pub(crate) fn read_value(rows: &Rows<NdLaw>, pass: &mut Pass<NdLaw>, row: u32) -> Vector
     requires pass { IsPassOf rows.now pass.old }
     requires row { In row (pinned_copy (known_of pass.old)).rows }
     requires point { (p : Point) × HasPoint rows.now.shape (pinned_copy (known_of pass.old)) row p }

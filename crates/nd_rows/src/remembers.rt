@@ -1,20 +1,30 @@
-//! The values of added points that a pass remembers.
-ghost use Rattle.std.specs.Prelude.{◌≡◌, ℕ, ◌<◌, true, map, take, length};
+//! The values of submitted points that a pass remembers.
+ghost use Rattle.std.specs.Prelude.{◌≡◌, ℤ, ◌<◌, ◌%◌, true, Some, List, [], ◌∷◌, length, slice_set};
+ghost use Rattle.era_core.specs.Lists.{In};
+ghost use Rattle.era_rows.specs.Known.{pinned_copy};
 ghost use Rattle.era_rows.specs.declared.memory.TheConstants.{MEMORY_PLACES};
-ghost use Rattle.era_rows.specs.Passes.{known_of, knows_of, seen_of, marked_of, work_of, IsPassOf};
+ghost use Rattle.era_rows.specs.Passes.{known_of, knows_of, seen_of, marked_of, work_of, memory_of, IsPassOf};
+ghost use Rattle.pls_archive.specs.declared.point.Point.{Point};
+ghost use Rattle.pls_archive.specs.Lists as lists;
 ghost use Rattle.pls_archive.specs.History.{submissions};
 ghost use Rattle.pls_archive.specs.Reply.{has_value, some_weakly_dominates};
-ghost use Rattle.pls_vectors.specs.Dominance.{weakly_dominates};
-ghost use Rattle.pls_vectors.specs.Word.{from_word};
+ghost use Rattle.pls_vectors.specs.Dominance.{IsValue};
+ghost use Rattle.nd_rows.specs.Entries.{memory_words, held_covers, recalls_value};
+ghost use Rattle.nd_rows.specs.Layout.{HasPoint};
+ghost use Rattle.nd_rows.specs.Reads.{ReadsIn, HasKept};
+ghost use mathlib.Core.Option.{some};
+ghost use lib.ListN.{get_elem?};
 
 use crate::law::NdLaw;
+use crate::points::read_value;
 use crate::reads::part_word;
-use era_rows::{MEMORY_PLACES, MEMORY_WORDS, Pass};
+use era_rows::{MEMORY_PLACES, MEMORY_WORDS, Pass, Rows};
 use pls_vectors::Vector;
 
-// The words of the parts of a value, and no others.
+// The words of the parts of a value, and 0 at each place past them.
 fn words_of(value: &Vector) -> [u64; MEMORY_WORDS]
-    ensures { map from_word (take (length value.now) result) ≡ value.now }
+    ensures words { result ≡ memory_words value.now }
+    ensures value { IsValue value.now }
 {
     let mut words = [0; MEMORY_WORDS];
     for k in 0..value.len() {
@@ -23,34 +33,43 @@ fn words_of(value: &Vector) -> [u64; MEMORY_WORDS]
     words
 }
 
-// Whether no part of the value is above that of the words.
-fn is_below(value: &Vector, words: &[u64; MEMORY_WORDS]) -> bool
-    ensures { result ≡ true → weakly_dominates (map from_word (take (length value.now) words.now)) value.now ≡ true }
+// Whether each word of the first four is at least the wanted one. A value has at most four parts, and a wanted word past them is 0.
+fn are_at_least(words: &[u64; MEMORY_WORDS], wanted: &[u64; MEMORY_WORDS]) -> bool
+    ensures { (v : List ℤ) → IsValue v → wanted.now ≡ memory_words v → result ≡ held_covers v (Some words.now) }
 {
-    for k in 0..value.len() {
-        if words[k] < part_word(value, k) {
-            return false;
-        }
-    }
-    true
+    (words[0] >= wanted[0])
+        & (words[1] >= wanted[1])
+        & (words[2] >= wanted[2])
+        & (words[3] >= wanted[3])
 }
 
-/// Whether a value that the pass remembers weakly dominates this one. Then a point that was added does.
+// Whether the words at a place are of a value that weakly dominates the one with the wanted words.
+fn recalls_at(pass: &Pass<NdLaw>, place: usize, wanted: &[u64; MEMORY_WORDS]) -> bool
+    requires { place < MEMORY_PLACES }
+    ensures { (v : List ℤ) → IsValue v → wanted.now ≡ memory_words v → (held : _) × (get_elem? (memory_of pass.now) place ≡ some held) × (result ≡ held_covers v held) }
+{
+    match pass.remembered(place) {
+        Some(words) => are_at_least(&words, wanted),
+        None => false,
+    }
+}
+
+/// Whether a value that the pass remembers weakly dominates this one. Then a point that was submitted does.
 pub fn recalls(pass: &Pass<NdLaw>, value: &Vector) -> bool
     requires parts { length value.now ≡ (known_of pass.now).shape }
-    ensures { result ≡ true → some_weakly_dominates (submissions (seen_of pass.now)) value.now ≡ true }
+    ensures submitted { result ≡ true → some_weakly_dominates (submissions (seen_of pass.now)) value.now ≡ true }
+    ensures memory { result ≡ recalls_value (memory_of pass.now) value.now }
 {
+    let wanted = words_of(value);
     for place in 0..MEMORY_PLACES {
-        if let Some(words) = pass.remembered(place) {
-            if is_below(value, &words) {
-                return true;
-            }
+        if recalls_at(pass, place, &wanted) {
+            return true;
         }
     }
     false
 }
 
-/// Remembers the value of a point that was added, at a place, and no other value there.
+/// Remembers the value of a point that was submitted, at a place, and no other value there.
 pub fn remember(pass: &mut Pass<NdLaw>, place: usize, value: &Vector)
     requires place { place < MEMORY_PLACES }
     requires parts { length value.now ≡ (known_of pass.old).shape }
@@ -60,6 +79,21 @@ pub fn remember(pass: &mut Pass<NdLaw>, place: usize, value: &Vector)
     ensures known { knows_of pass.new ≡ knows_of pass.old }
     ensures marks { marked_of pass.new ≡ marked_of pass.old }
     ensures work { work_of pass.new ≡ work_of pass.old }
+    ensures memory { memory_of pass.new ≡ slice_set (memory_of pass.old) place (Some (memory_words value.now)) }
 {
     pass.remember(place, words_of(value));
+}
+
+// Remembers the value of the point in a row, which was submitted.
+pub(crate) fn remember_row(rows: &Rows<NdLaw>, pass: &mut Pass<NdLaw>, row: u32)
+    requires pass { IsPassOf rows.now pass.old }
+    requires row { In row (pinned_copy (known_of pass.old)).rows }
+    requires point { (p : Point) × HasPoint rows.now.shape (pinned_copy (known_of pass.old)) row p × lists.In p (submissions (seen_of pass.old)) }
+    ensures pass { IsPassOf rows.now pass.new }
+    ensures reads { ReadsIn (row ∷ []) (known_of pass.old) (known_of pass.new) }
+    ensures kept { HasKept pass.old pass.new }
+    ensures memory { (p : Point) → HasPoint rows.now.shape (pinned_copy (known_of pass.old)) row p → memory_of pass.new ≡ slice_set (memory_of pass.old) (row % MEMORY_PLACES) (Some (memory_words p.value)) }
+{
+    let value = read_value(rows, pass, row);
+    remember(pass, row as usize % MEMORY_PLACES, &value);
 }

@@ -1,5 +1,5 @@
 //! The walk of a question over the nodes of the pinned version.
-ghost use Rattle.std.specs.Prelude.{◌≡◌, ℕ, ℤ, ◌+◌, ◌*◌, ◌<◌, ◌≤◌, true, Some, None, List, [], ◌∷◌, ◌++◌, length, reverse};
+ghost use Rattle.std.specs.Prelude.{◌≡◌, ℕ, ℤ, ◌+◌, ◌*◌, ◌<◌, ◌≤◌, true, Some, None, IfSome, List, [], ◌∷◌, ◌++◌, is_some, length, reverse};
 ghost use Rattle.era_core.specs.Lists.{In};
 ghost use Rattle.era_core.specs.Versions.{look_up};
 ghost use Rattle.era_rows.specs.Known.{pinned_copy};
@@ -8,7 +8,7 @@ ghost use Rattle.pls_vectors.specs.Box.{Box};
 ghost use Rattle.nd_rows.specs.Layout.{HasWords, IsBoxRow};
 ghost use Rattle.nd_rows.specs.Nodes.{Placed, Nodes, rows_with, points_with, necessary, heads, rows_of, points_of};
 ghost use Rattle.nd_rows.specs.Reads.{LooksIn};
-ghost use Rattle.nd_rows.specs.Walk.{some_meets, point_answer, box_answer, equal_answer, box_told, HasPlaced, BeginAt, Asks, AreOnList, is_open, kids_of};
+ghost use Rattle.nd_rows.specs.Walk.{some_meets, point_answer, box_answer, equal_answer, box_told, HasPlaced, BeginAt, Asks, AreOnList, IsRowOf, Finds, is_open, kids_of};
 ghost use Rattle.nd_rows.specs.declared.question.Question.TheVariants.{Covers, Equals};
 
 use crate::law::NdLaw;
@@ -104,7 +104,7 @@ fn answer_of(question: Question, side: Option<bool>) -> bool
     }
 }
 
-// Whether one of the points of a leaf answers the question.
+// The row of the first point of a leaf that answers the question, where one does.
 fn ask_points(
     rows: &Rows<NdLaw>,
     pass: &mut Pass<NdLaw>,
@@ -112,22 +112,23 @@ fn ask_points(
     count: u32,
     value: &Vector,
     question: Question,
-) -> bool
+) -> Option<u32>
     requires pass { IsPassOf rows.now pass.old }
     requires row { In row (pinned_copy (known_of pass.old)).rows }
     requires points { (placed : List Placed) × HasPlaced (length value.now) (pinned_copy (known_of pass.old)) row placed × (length placed ≡ count) }
     ensures looks { (placed : List Placed) → HasPlaced (length value.now) (pinned_copy (known_of pass.old)) row placed → length placed ≡ count → LooksIn rows.now (row ∷ rows_with placed) pass.old pass.new }
     ensures work { work_of pass.new ≡ work_of pass.old }
-    ensures answer { (placed : List Placed) → HasPlaced (length value.now) (pinned_copy (known_of pass.old)) row placed → length placed ≡ count → result ≡ some_meets question (points_with placed) value.now }
+    ensures answer { (placed : List Placed) → HasPlaced (length value.now) (pinned_copy (known_of pass.old)) row placed → length placed ≡ count → is_some result ≡ some_meets question (points_with placed) value.now }
+    ensures row { (placed : List Placed) → HasPlaced (length value.now) (pinned_copy (known_of pass.old)) row placed → length placed ≡ count → IfSome result (IsRowOf (length value.now) (pinned_copy (known_of pass.old)) (rows_with placed) (points_with placed)) }
 {
     for k in 0..count {
         let point = word(rows, pass, row, FIRST_LINK + k);
         let side = sided(rows, pass, point as u32, VALUE, value, false);
         if answer_of(question, side) {
-            return true;
+            return Some(point as u32);
         }
     }
-    false
+    None
 }
 
 // Puts the children of a node at the end of the work list, the first one last.
@@ -146,7 +147,7 @@ pub(crate) fn push_links(rows: &Rows<NdLaw>, pass: &mut Pass<NdLaw>, row: u32, c
 }
 
 // Looks below a node whose box leaves the question open, where `first` is its word 0: at the points of a leaf, or at nothing yet
-// but the links of an inner node.
+// but the links of an inner node. A point that answers the question is found.
 fn ask_below(
     rows: &Rows<NdLaw>,
     pass: &mut Pass<NdLaw>,
@@ -154,33 +155,40 @@ fn ask_below(
     first: u64,
     value: &Vector,
     question: Question,
+    found: &mut Option<u32>,
 ) -> Option<bool>
     requires pass { IsPassOf rows.now pass.old }
     requires first { look_up (pinned_copy (known_of pass.old)).cells row 0 ≡ Some first }
     requires node { (ns : Nodes) × BeginAt (length value.now) (pinned_copy (known_of pass.old)) row ns × (length (work_of pass.old) + length (heads (kids_of ns)) ≤ 2 * rows.now.rows) }
     ensures looks { (ns : Nodes) → BeginAt (length value.now) (pinned_copy (known_of pass.old)) row ns → is_open value.now ns ≡ true → LooksIn rows.now (necessary value.now ns) pass.old pass.new }
     ensures asks { (ns : Nodes) → BeginAt (length value.now) (pinned_copy (known_of pass.old)) row ns → is_open value.now ns ≡ true → Asks question value.now ns result (work_of pass.old) (work_of pass.new) }
+    ensures finds { (ns : Nodes) → BeginAt (length value.now) (pinned_copy (known_of pass.old)) row ns → is_open value.now ns ≡ true → Finds (length value.now) (pinned_copy (known_of pass.old)) (necessary value.now ns) (points_of ns) found.old found.new }
 {
     let count = (first / KINDS) as u32;
     if first % KINDS == LEAF {
-        return Some(ask_points(rows, pass, row, count, value, question));
+        let point = ask_points(rows, pass, row, count, value, question);
+        *found = point.or(*found);
+        return Some(point.is_some());
     }
     push_links(rows, pass, row, count);
     None
 }
 
-// Asks one node: whether a point below it answers the question, or nothing where its children are to be asked.
+// Asks one node: whether a point below it answers the question, or nothing where its children are to be asked. A point that was
+// looked at and answers it is found.
 fn ask_node(
     rows: &Rows<NdLaw>,
     pass: &mut Pass<NdLaw>,
     row: u32,
     value: &Vector,
     question: Question,
+    found: &mut Option<u32>,
 ) -> Option<bool>
     requires pass { IsPassOf rows.now pass.old }
     requires node { (ns : Nodes) × BeginAt (length value.now) (pinned_copy (known_of pass.old)) row ns × (length (work_of pass.old) + length (heads (kids_of ns)) ≤ 2 * rows.now.rows) }
     ensures looks { (ns : Nodes) → BeginAt (length value.now) (pinned_copy (known_of pass.old)) row ns → LooksIn rows.now (necessary value.now ns) pass.old pass.new }
     ensures asks { (ns : Nodes) → BeginAt (length value.now) (pinned_copy (known_of pass.old)) row ns → Asks question value.now ns result (work_of pass.old) (work_of pass.new) }
+    ensures finds { (ns : Nodes) → BeginAt (length value.now) (pinned_copy (known_of pass.old)) row ns → Finds (length value.now) (pinned_copy (known_of pass.old)) (necessary value.now ns) (points_of ns) found.old found.new }
 {
     let first = word(rows, pass, row, 0);
     if first / KINDS == 0 {
@@ -188,21 +196,24 @@ fn ask_node(
     }
     match ask_box(rows, pass, row, value, question) {
         Some(answer) => Some(answer),
-        None => ask_below(rows, pass, row, first, value, question),
+        None => ask_below(rows, pass, row, first, value, question, found),
     }
 }
 
-// Asks the nodes on the work list, which is empty afterwards: whether a point below them answers the question.
+// Asks the nodes on the work list, which is empty afterwards: whether a point below them answers the question. A point that was
+// looked at and answers it is found.
 pub(crate) fn ask_pending(
     rows: &Rows<NdLaw>,
     pass: &mut Pass<NdLaw>,
     value: &Vector,
     question: Question,
+    found: &mut Option<u32>,
 ) -> bool
     requires pass { IsPassOf rows.now pass.old }
     requires nodes { (ns : Nodes) × AreOnList (length value.now) (pinned_copy (known_of pass.old)) rows.now.rows (work_of pass.old) ns }
     ensures looks { (ns : Nodes) → AreOnList (length value.now) (pinned_copy (known_of pass.old)) rows.now.rows (work_of pass.old) ns → LooksIn rows.now (necessary value.now ns) pass.old pass.new }
     ensures answer { (ns : Nodes) → AreOnList (length value.now) (pinned_copy (known_of pass.old)) rows.now.rows (work_of pass.old) ns → result ≡ some_meets question (points_of ns) value.now }
+    ensures finds { (ns : Nodes) → AreOnList (length value.now) (pinned_copy (known_of pass.old)) rows.now.rows (work_of pass.old) ns → Finds (length value.now) (pinned_copy (known_of pass.old)) (necessary value.now ns) (points_of ns) found.old found.new }
     ensures work { work_of pass.new ≡ [] }
 {
     // Each node is asked once.
@@ -213,7 +224,7 @@ pub(crate) fn ask_pending(
         }
         let row = pass.work(len - 1);
         pass.work_cut(len - 1);
-        if ask_node(rows, pass, row as u32, value, question).unwrap_or(false) {
+        if ask_node(rows, pass, row as u32, value, question, found).unwrap_or(false) {
             pass.work_cut(0);
             return true;
         }

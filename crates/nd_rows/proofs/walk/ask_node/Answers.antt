@@ -1,11 +1,11 @@
 use Rattle.std.proofs.Common.{◌≡◌, ◌+◌, ◌*◌, ◌<◌, ◌≤◌, Some, [], ◌∷◌, length, sym, ◌∙◌, subst, arith}
-use Rattle.era_core.specs.Versions.{look_up}
+use Rattle.era_core.specs.Versions.{Copy, look_up}
 use Rattle.era_rows.specs.Known.{pinned_copy}
 use Rattle.era_rows.specs.Passes.{known_of, work_of}
-use Rattle.nd_rows.specs.Nodes.{necessary, heads}
+use Rattle.nd_rows.specs.Nodes.{necessary, heads, points_of}
 use Rattle.nd_rows.specs.Layout.{IsBoxRow}
-use Rattle.nd_rows.specs.Walk.{BeginAt, Asks, kids_of}
-use Rattle.nd_rows.proofs.Looks.{looks_more, row_there, stays}
+use Rattle.nd_rows.specs.Walk.{BeginAt, Asks, Finds, kids_of}
+use Rattle.nd_rows.proofs.Looks.{looks_more, row_there, same_copy, stays}
 use Rattle.nd_rows.proofs.Below.{looks_row}
 use Rattle.nd_rows.proofs.Pending.{row_among, first_there, links_count, links_of, box_of_first, box_row, box_asks, box_opens, none_below}
 use Rattle.nd_rows.proofs.walk.ask_node.Goals as goal
@@ -94,3 +94,17 @@ returns-in-None-clause-asks c ns at =
     let first = looks_more c.args.rows.now (c.args.row ∷ []) p c.word-first.new.pass c.ask_box.new.pass c.word-first.ensures.looks c.ask_box.ensures.looks in
     let at_box = stays c.args.rows.now (λ x. BeginAt (length v) x c.args.row ns) (c.args.row ∷ []) p c.ask_box.new.pass first at in
     subst (λ ws. Asks c.args.question v ns c.ask_below.result ws (work_of c.ask_below.new.pass)) (c.ask_box.ensures.work ∙ c.word-first.ensures.work) (c.ask_below.ensures.asks ns at_box opens)
+
+pub returns-in-None-clause-finds : goal.returns-in-None-clause-finds
+returns-in-None-clause-finds c ns at =
+    let v = c.args.value.now in
+    let p = c.args.pass.now in
+    let copy = pinned_copy (known_of p) in
+    let there = first_there (length v) copy c.args.row ns at c.word-first.result c.word-first.ensures.word in
+    let links = links_count (length v) copy c.args.row ns c.word-first.result at there in
+    let some : 0 < length (links_of ns) = omega (arith, c.if-first-eq0.false, links) in
+    let box = stays c.args.rows.now (λ x. IsBoxRow (length v) x.cells c.args.row (box_of_first ns)) (c.args.row ∷ []) p c.word-first.new.pass c.word-first.ensures.looks (box_row (length v) copy c.args.row ns at some) in
+    let opens = box_opens (length v) copy c.args.row v c.args.question ns at (sym c.in-None.is ∙ c.ask_box.ensures.answer (box_of_first ns) box) in
+    let first = looks_more c.args.rows.now (c.args.row ∷ []) p c.word-first.new.pass c.ask_box.new.pass c.word-first.ensures.looks c.ask_box.ensures.looks in
+    let at_box = stays c.args.rows.now (λ x. BeginAt (length v) x c.args.row ns) (c.args.row ∷ []) p c.ask_box.new.pass first at in
+    subst (λ (x : Copy). Finds (length v) x (necessary v ns) (points_of ns) c.args.found.now c.ask_below.new.found) (same_copy c.args.rows.now (c.args.row ∷ []) p c.ask_box.new.pass first) (c.ask_below.ensures.finds ns at_box opens)

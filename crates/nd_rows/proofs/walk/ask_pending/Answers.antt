@@ -1,18 +1,19 @@
-use Rattle.std.proofs.Common.{length, sym, ◌∙◌, arith}
+use Rattle.std.proofs.Common.{inl, length, refl, sym, ◌∙◌, arith}
 use Rattle.era_rows.specs.Known.{pinned_copy}
 use Rattle.era_rows.specs.Passes.{known_of, work_of}
-use Rattle.nd_rows.specs.Nodes.{necessary}
+use Rattle.nd_rows.specs.Nodes.{points_of, necessary}
 use Rattle.nd_rows.proofs.Looks.{looks_none, looks_more, looks_work}
 use Rattle.nd_rows.proofs.Left.{nothing_left, left_out}
 use Rattle.nd_rows.proofs.Asking.{asked_none, asked_all}
-use Rattle.nd_rows.proofs.Pops.{popped, pop_looks, pop_yes, pop_more}
+use Rattle.nd_rows.proofs.Finding.{finds_both}
+use Rattle.nd_rows.proofs.Pops.{popped, pop_looks, pop_finds, pop_yes, pop_more}
 use Rattle.nd_rows.proofs.walk.ask_pending.Goals as goal
 
 pub loop-asked-init : goal.loop-asked-init
 loop-asked-init c = (
   c.requires.pass,
   λ ns on.
-      (looks_none c.args.rows.now (necessary c.args.value.now ns) c.args.pass.now c.requires.pass, asked_none (length c.args.value.now) (pinned_copy (known_of c.args.pass.now)) c.args.question c.args.value.now c.args.rows.now.rows (work_of c.args.pass.now) ns on),
+      (looks_none c.args.rows.now (necessary c.args.value.now ns) c.args.pass.now c.requires.pass, asked_none (length c.args.value.now) (pinned_copy (known_of c.args.pass.now)) c.args.question c.args.value.now c.args.rows.now.rows (work_of c.args.pass.now) ns on, inl refl),
 )
 
 pub returns-then-len-eq0-clause-looks : goal.returns-then-len-eq0-clause-looks
@@ -21,6 +22,9 @@ returns-then-len-eq0-clause-looks c ns on = (c.loop-asked.invariant.1 ns on).0
 pub returns-then-len-eq0-clause-answer : goal.returns-then-len-eq0-clause-answer
 returns-then-len-eq0-clause-answer c ns on =
     asked_all (length c.args.value.now) (pinned_copy (known_of c.args.pass.now)) c.args.question c.args.value.now ns c.loop-asked.asked (work_of c.loop-asked.pass) (c.loop-asked.invariant.1 ns on).1 (sym c.work_len-len.ensures ∙ c.if-len-eq0.true)
+
+pub returns-then-len-eq0-clause-finds : goal.returns-then-len-eq0-clause-finds
+returns-then-len-eq0-clause-finds c ns on = (c.loop-asked.invariant.1 ns on).2
 
 pub overflow_cast-row : goal.overflow_cast-row
 overflow_cast-row c =
@@ -65,6 +69,16 @@ returns-then-unwrap_or-clause-answer c ns on =
     let pop = popped c.args.rows.now (length v) (necessary v ns) c.args.pass.now ns c.loop-asked.asked on.few c.loop-asked.pass c.loop-asked.invariant.0 so_far.0 so_far.1.left so_far.1.are_left c.work_len-len.result c.work-row.result c.work_len-len.ensures c.if-len-eq0.false c.work-row.ensures c.work_cut.new.self cut.pass cut.number cut.known cut.marks cut.memory cut.work in
     pop_yes c.args.rows.now c.args.question v c.args.pass.now ns c.loop-asked.asked c.loop-asked.pass c.work_cut.new.self c.ask_node.new.pass c.work-row.result so_far.1 pop (c.ask_node.ensures.looks so_far.1.left pop.at) c.ask_node.result (c.ask_node.ensures.asks so_far.1.left pop.at) (sym c.unwrap_or.ensures ∙ c.if-unwrap_or.true)
 
+pub returns-then-unwrap_or-clause-finds : goal.returns-then-unwrap_or-clause-finds
+returns-then-unwrap_or-clause-finds c ns on =
+    let v = c.args.value.now in
+    let cut = c.work_cut.ensures in
+    let so_far = c.loop-asked.invariant.1 ns on in
+    let pop = popped c.args.rows.now (length v) (necessary v ns) c.args.pass.now ns c.loop-asked.asked on.few c.loop-asked.pass c.loop-asked.invariant.0 so_far.0 so_far.1.left so_far.1.are_left c.work_len-len.result c.work-row.result c.work_len-len.ensures c.if-len-eq0.false c.work-row.ensures c.work_cut.new.self cut.pass cut.number cut.known cut.marks cut.memory cut.work in
+    finds_both (length v) (pinned_copy (known_of c.args.pass.now)) (necessary v ns) (points_of ns) c.args.found.now c.loop-asked.found c.ask_node.new.found so_far.2
+    (pop_finds c.args.rows.now c.args.question v c.args.pass.now ns c.loop-asked.asked c.loop-asked.pass c.work_cut.new.self c.ask_node.new.pass c.work-row.result so_far.1 pop (c.ask_node.ensures.looks so_far.1.left pop.at) c.ask_node.result (c.ask_node.ensures.asks so_far.1.left pop.at)
+    c.loop-asked.found c.ask_node.new.found (c.ask_node.ensures.finds so_far.1.left pop.at))
+
 pub loop-asked-preserved : goal.loop-asked-preserved
 loop-asked-preserved c = (
   (let ns = c.requires.nodes.0 in
@@ -78,8 +92,13 @@ loop-asked-preserved c = (
       let v = c.args.value.now in
       let cut = c.work_cut.ensures in
       let so_far = c.loop-asked.invariant.1 ns on in
-      let pop = popped c.args.rows.now (length v) (necessary v ns) c.args.pass.now ns c.loop-asked.asked on.few c.loop-asked.pass c.loop-asked.invariant.0 so_far.0 so_far.1.left so_far.1.are_left c.work_len-len.result c.work-row.result c.work_len-len.ensures c.if-len-eq0.false c.work-row.ensures c.work_cut.new.self cut.pass cut.number cut.known cut.marks cut.memory cut.work in
-      (pop_looks c.args.rows.now c.args.question v c.args.pass.now ns c.loop-asked.asked c.loop-asked.pass c.work_cut.new.self c.ask_node.new.pass c.work-row.result so_far.1 pop (c.ask_node.ensures.looks so_far.1.left pop.at) c.ask_node.result (c.ask_node.ensures.asks so_far.1.left pop.at), pop_more c.args.rows.now c.args.question v c.args.pass.now ns c.loop-asked.asked c.loop-asked.pass c.work_cut.new.self c.ask_node.new.pass c.work-row.result so_far.1 pop (c.ask_node.ensures.looks so_far.1.left pop.at) c.ask_node.result (c.ask_node.ensures.asks so_far.1.left pop.at) (sym c.unwrap_or.ensures ∙ c.if-unwrap_or.false))),
+      let pop = popped c.args.rows.now (length v) (necessary v ns) c.args.pass.now ns c.loop-asked.asked on.few c.loop-asked.pass c.loop-asked.invariant.0 so_far.0 so_far.1.left so_far.1.are_left c.work_len-len.result c.work-row.result c.work_len-len.ensures c.if-len-eq0.false c.work-row.ensures c.work_cut.new.self cut.pass cut.number cut.known cut.marks cut.memory cut.work in (
+        pop_looks c.args.rows.now c.args.question v c.args.pass.now ns c.loop-asked.asked c.loop-asked.pass c.work_cut.new.self c.ask_node.new.pass c.work-row.result so_far.1 pop (c.ask_node.ensures.looks so_far.1.left pop.at) c.ask_node.result (c.ask_node.ensures.asks so_far.1.left pop.at),
+        pop_more c.args.rows.now c.args.question v c.args.pass.now ns c.loop-asked.asked c.loop-asked.pass c.work_cut.new.self c.ask_node.new.pass c.work-row.result so_far.1 pop (c.ask_node.ensures.looks so_far.1.left pop.at) c.ask_node.result (c.ask_node.ensures.asks so_far.1.left pop.at) (sym c.unwrap_or.ensures ∙ c.if-unwrap_or.false),
+        finds_both (length v) (pinned_copy (known_of c.args.pass.now)) (necessary v ns) (points_of ns) c.args.found.now c.loop-asked.found c.ask_node.new.found so_far.2
+            (pop_finds c.args.rows.now c.args.question v c.args.pass.now ns c.loop-asked.asked c.loop-asked.pass c.work_cut.new.self c.ask_node.new.pass c.work-row.result so_far.1 pop (c.ask_node.ensures.looks so_far.1.left pop.at) c.ask_node.result (c.ask_node.ensures.asks so_far.1.left pop.at)
+            c.loop-asked.found c.ask_node.new.found (c.ask_node.ensures.finds so_far.1.left pop.at)),
+      )),
 )
 
 pub returns-clause-looks : goal.returns-clause-looks
@@ -90,6 +109,9 @@ returns-clause-answer c ns on =
     let asked = (c.loop-asked.invariant.1 ns on).1 in
     asked_all (length c.args.value.now) (pinned_copy (known_of c.args.pass.now)) c.args.question c.args.value.now ns c.loop-asked.asked (work_of c.loop-asked.pass) asked
     (left_out (length c.args.value.now) (pinned_copy (known_of c.args.pass.now)) ns c.loop-asked.asked (work_of c.loop-asked.pass) asked.left asked.are_left (omega (arith, on.few, c.args.rows.now.few_rows, c.loop-asked-test.false)))
+
+pub returns-clause-finds : goal.returns-clause-finds
+returns-clause-finds c ns on = (c.loop-asked.invariant.1 ns on).2
 
 pub returns-clause-work : goal.returns-clause-work
 returns-clause-work c =
