@@ -1,5 +1,5 @@
 -- Where nothing is left of a tree, the new one is a leaf with the point alone.
-use Rattle.std.proofs.Common.{◌≡◌, ℕ, ◌+◌, inl, None, Option, Some, List, [], ◌∷◌, ◌++◌, refl, sym, ap, subst, ◌∙◌, arith, append-nil}
+use Rattle.std.proofs.Common.{◌≡◌, ℕ, inl, None, Option, [], ◌∷◌, ◌++◌, refl, sym, ap, subst, ◌∙◌, arith, append-nil}
 use Rattle.era_core.specs.Lists.{times}
 use Rattle.era_core.proofs.ListFacts.{times-append}
 use Rattle.era_rows.specs.Known.{known_words}
@@ -13,7 +13,7 @@ use Rattle.pls_vectors.specs.Box.{box_of}
 use Rattle.nd_rows.specs.Nodes.{Placed, Nodes, no_nodes, leaf, inner}
 use Rattle.nd_rows.specs.Layout.{IsPointRow}
 use Rattle.nd_update.specs.Building.{Does}
-use Rattle.nd_update.specs.Insertion.{new_placed, with_point, way, replaced}
+use Rattle.nd_update.specs.Insertion.{new_placed, with_point, way}
 use Rattle.nd_update.specs.Naming.{AreNamed, names_with, names_of, AreNamesWritten, IsLeafRow}
 use Rattle.nd_update.specs.Removal.{without_dominated, dropped}
 use Rattle.nd_update.specs.Left.{IsLeft}

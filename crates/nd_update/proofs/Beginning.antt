@@ -1,11 +1,11 @@
 -- What is left of a tree, as a pass finds it in its rows: different ones, which it may read, with the boxes of their points.
-use Rattle.std.proofs.Common.{◌≡◌, ◌≢◌, ℕ, zero, suc, not, ◌+◌, ◌<◌, ◌≤◌, inl, inr, ⊎_elim, List, [], ◌∷◌, ◌++◌, length, get_or, Some, refl, sym, ap, subst, ◌∙◌, arith, ℤ}
+use Rattle.std.proofs.Common.{◌≡◌, ◌≢◌, ℕ, zero, suc, not, ◌+◌, ◌<◌, ◌≤◌, inl, inr, ⊎_elim, List, [], ◌∷◌, ◌++◌, length, get_or, Some, refl, sym, ap, subst, ◌∙◌, arith}
 use Rattle.std.proofs.lemmas.Bool.{cases_eq}
 use Rattle.era_core.specs.declared.sizes.TheConstants.{MOST_ROWS}
 use Rattle.era_core.specs.Lists.{times, In}
 use Rattle.era_core.proofs.ListFacts.{times-append, in_head}
-use Rattle.era_core.specs.Versions.{Cell, Copy, look_up}
-use Rattle.era_rows.specs.Known.{Known, pinned_copy, known_words}
+use Rattle.era_core.specs.Versions.{Copy}
+use Rattle.era_rows.specs.Known.{pinned_copy, known_words}
 use Rattle.era_rows.specs.Passes.{known_of, marked_of, IsReadable}
 use Rattle.era_rows.specs.declared.pass.Pass.{Pass}
 use Rattle.era_rows.specs.declared.rows.Rows.{Rows}
@@ -261,6 +261,7 @@ module _ {L : Type 0} {G : Ghosts L Entry} (r : Rows L Entry) (objectives : ℕ)
             goes = continues_first objectives r.rows point tree_left (known_words (known_of q)) own;
             boxed = λ none.
                 subst (IsBoxRow objectives (known_words (known_of q)) own) (node_alone objectives (known_of p) root named_left point.value left_node (sym (count_touched own point.value named_left) ∙ none)) box;
+            onwards = λ x here. here;
             bounded = (let most = low in omega arith);
           },
         ),

@@ -1,5 +1,5 @@
 -- The children of a node in a row: their rows and boxes, and each alone.
-use Rattle.std.proofs.Common.{◌≡◌, ℕ, zero, suc, ◌+◌, ◌-◌, ◌<◌, ◌≤◌, ℤ, Some, List, [], ◌∷◌, ◌++◌, length, take, get_or, set, refl, sym, ap, subst, ◌∙◌, arith}
+use Rattle.std.proofs.Common.{◌≡◌, ℕ, zero, suc, ◌+◌, ◌-◌, ◌<◌, ◌≤◌, Some, List, [], ◌∷◌, ◌++◌, length, take, get_or, set, refl, sym, ap, ◌∙◌, arith}
 use Rattle.std.specs.Prelude.{replicate}
 use Rattle.std.proofs.lemmas.List.{take_all}
 use Rattle.era_core.specs.Lists.{times, In}
@@ -13,8 +13,8 @@ use Rattle.era_rows.specs.declared.law.Law.{Ghosts}
 use Rattle.pls_archive.specs.declared.call.Entry.{Entry}
 use Rattle.pls_vectors.specs.Box.{Box}
 use Rattle.nd_rows.specs.declared.layout.TheConstants.{FIRST_LINK}
-use Rattle.nd_rows.specs.Nodes.{Placed, Nodes, no_nodes, leaf, inner, heads, rows_of, rows_with}
-use Rattle.nd_rows.specs.Layout.{HasWords, IsBoxRow, AreWritten}
+use Rattle.nd_rows.specs.Nodes.{Nodes, no_nodes, leaf, inner, heads, rows_of, rows_with}
+use Rattle.nd_rows.specs.Layout.{IsBoxRow, AreWritten}
 use Rattle.nd_rows.proofs.Sides.{word_at}
 use Rattle.nd_update.specs.Insertion.{boxes_of}
 use Rattle.nd_update.specs.Ways.{IsBox, HaveSome, AreFit, HasNode, at_node}

@@ -11,8 +11,10 @@ use Rattle.pls_archive.specs.declared.call.Entry.{Entry}
 use Rattle.pls_vectors.specs.Box.{Box}
 use Rattle.nd_rows.specs.Layout.{IsBoxRow}
 use Rattle.nd_update.specs.Building.{IsBuilding, Does}
+use Rattle.nd_update.specs.Needed.{ReadsOnly}
 use Rattle.nd_update.proofs.Alike.{box-alike}
 use Rattle.nd_update.proofs.Building.{does_none, does_wider, does_read, writes_both, pinned_words}
+use Rattle.nd_update.proofs.Reading.{only_any, only_then}
 use Rattle.nd_update.proofs.Removing.{stay_pinned, row_still}
 
 module _ {L : Type 0} {G : Ghosts L Entry} (r : Rows L Entry) where
@@ -34,3 +36,11 @@ module _ {L : Type 0} {G : Ghosts L Entry} (r : Rows L Entry) where
   pub copy_does : (own : ℕ) (p q s1 s2 s3 : Pass L Entry G) → Does r [] [] (own ∷ []) p q → Does r [] [] (own ∷ []) q s1 → Does r [] [] [] s1 s2 → Does r [] [] (own ∷ []) s2 s3 → Does r [] [] (own ∷ []) p s3
   copy_does own p q s1 s2 s3 links first read box =
       writes_both r own p s2 s3 (does_read r [] [] (own ∷ []) p s1 s2 (writes_both r own p q s1 links first) read) box
+
+  -- and words of the row alone were found
+  pub copy_only : (own row : ℕ) (p q s1 s2 s3 : Pass L Entry G) → Does r [] [] (own ∷ []) p q → Does r [] [] (own ∷ []) q s1 → Does r [] [] [] s1 s2
+      → ReadsOnly (row ∷ []) (known_of p) (known_of q) → ReadsOnly [] (known_of q) (known_of s1) → ReadsOnly (row ∷ []) (known_of s1) (known_of s2) → ReadsOnly [] (known_of s2) (known_of s3) → ReadsOnly (row ∷ []) (known_of p) (known_of s3)
+  copy_only own row p q s1 s2 s3 links first read only_links only_first only_box only_last =
+      only_then r [] [] (own ∷ []) (row ∷ []) p q s3 links only_links
+      (only_then r [] [] (own ∷ []) (row ∷ []) q s1 s3 first (only_any (row ∷ []) (known_of q) (known_of s1) only_first)
+      (only_then r [] [] [] (row ∷ []) s1 s2 s3 read only_box (only_any (row ∷ []) (known_of s2) (known_of s3) only_last)))

@@ -31,80 +31,96 @@ use Rattle.nd_update.proofs.Paying.{since_more}
 use mathlib.Core.Option.{some}
 use lib.ListN.{get_elem?}
 
--- ---- looks that take no row x
+-- ---- looks that a test does not meet
 
 any_none : (f : Look → Bool) (looks : List Look) → ((i : ℕ) (l : Look) → get_elem? looks i ≡ some l → f l ≡ false) → list_any f looks ≡ false
 any_none f [] none = refl
 any_none f (l ∷ looks) none = ap (λ b. b || list_any f looks) (none 0 l refl) ∙ any_none f looks (λ i m there. none (suc i) m there)
 
-module _ (passes rows x : ℕ) where
-  -- the looks after these took no row x
+module _ (passes rows : ℕ) (f : Look → Bool) where
+  -- none of the looks after these meets the test
   abbrev pub Avoids : List Look → List Look → Type 0
-  Avoids before after = (more : List Look) × (before ++ more ≡ after) × (list_any (takes_row passes rows x) more ≡ false)
+  Avoids before after = (more : List Look) × (before ++ more ≡ after) × (list_any f more ≡ false)
 
   avoids_both : (a b c : List Look) → Avoids a b → Avoids b c → Avoids a c
   avoids_both a b c one two = (
     one.0 ++ two.0,
     sym (append_assoc a one.0 two.0) ∙ ap (λ looks. looks ++ two.0) one.1 ∙ two.1,
-    list_any-append (takes_row passes rows x) one.0 two.0 ∙ ap (λ t. t || list_any (takes_row passes rows x) two.0) one.2 ∙ two.2,
+    list_any-append f one.0 two.0 ∙ ap (λ t. t || list_any f two.0) one.2 ∙ two.2,
   )
 
+  -- a scan and a search, where neither a reservation nor an owner that was found meets it
+  module _ (no_reservation : (i w j : ℕ) → j < passes → i ≡ reservation_at passes rows j → f (i, w) ≡ false) (no_owned : (i w r : ℕ) → r < rows → i ≡ owner_at passes rows r → 0 < w → f (i, w) ≡ false) where
+    avoids_scan : (p n j : ℕ) (words : List ℕ) → j + length words ≤ passes → list_any f (looks_of p n j words) ≡ false
+    avoids_scan p n j [] inside = refl
+    avoids_scan p n j (w ∷ words) inside =
+        ap (λ t. t || list_any f (looks_of p n (j + 1) words)) (no_reservation (reservation_at p n j) w j (omega (arith, inside)) refl) ∙ avoids_scan p n (j + 1) words (omega arith)
+
+    avoids_owned : (p to : ℕ) (looks : List Look) → p ≡ passes → to ≤ rows → (n : ℕ) → OnlyTaken p n 0 to looks → list_any f looks ≡ false
+    avoids_owned p to looks passes_are inside n only =
+        any_none f looks (λ i l there. let was = only i l there in no_owned l.0 l.1 was.0 (let low = was.2 in omega (arith, low, inside)) (let at = was.4 in omega (arith, at, passes_are)) was.3)
+
+    avoids_looked : (to : ℕ) (k l : Known) → k.passes ≡ passes → to ≤ rows → FindsTaken 0 to k l → Avoids k.looks l.looks
+    avoids_looked to k l passes_are inside found = (found.0, sym (ap (λ (z : Known). z.looks) found.1), avoids_owned k.passes to found.0 passes_are inside k.rows found.3)
+
+    avoids_tidied : (k l : Known) → k.passes ≡ passes → Tidies k l → Avoids k.looks l.looks
+    avoids_tidied k l passes_are tidied = (
+      looks_of k.passes k.rows 0 tidied.words,
+      sym (ap (λ (z : Known). z.looks) tidied.now),
+      avoids_scan k.passes k.rows 0 tidied.words (let all = tidied.all in omega (arith, all, passes_are)),
+    )
+
+    -- a search and a tidy, and then what follows
+    avoids_later : (k l m after : Known) (to : ℕ) → k.passes ≡ passes → to ≤ rows → FindsTaken 0 to k l → Tidies l m → Avoids m.looks after.looks → Avoids k.looks after.looks
+    avoids_later k l m after to passes_are inside found tidied then_on =
+        avoids_both k.looks m.looks after.looks
+        (avoids_both k.looks l.looks m.looks (avoids_looked to k l passes_are inside found) (avoids_tidied l m (ap (λ (z : Known). z.passes) found.1 ∙ passes_are) tidied))
+        then_on
+
+    pub avoids_none : (to : ℕ) (k l : Known) → k.passes ≡ passes → to ≤ rows → FindsRow to k l None → Avoids k.looks l.looks
+    avoids_none to k l passes_are inside found =
+        avoids_later k found.0 found.1 l to passes_are inside found.2 found.3
+        (subst (Avoids found.1.looks) (sym (ap (λ (z : Known). z.looks) found.4.2))
+        (avoids_looked to found.1 found.4.0 (ap (λ (z : Known). z.passes) found.3.now ∙ ap (λ (z : Known). z.passes) found.2.1 ∙ passes_are) inside found.4.1))
+
+    -- nor does the owner of the row that was taken
+    module _ (r : ℕ) (not_taken : (i : ℕ) → i ≡ owner_at passes rows r → f (i, 0) ≡ false) where
+      avoids_took : (to : ℕ) (k l : Known) → k.passes ≡ passes → to ≤ rows → Takes 0 to r k l → Avoids k.looks l.looks
+      avoids_took to k l passes_are inside takes =
+          avoids_both k.looks (k.looks ++ takes.3.0) l.looks
+          (takes.3.0, refl, avoids_owned k.passes to takes.3.0 passes_are inside k.rows takes.3.2) (
+            (owner_at k.passes k.rows r, 0) ∷ [],
+            sym (ap (λ (z : Known). z.looks) takes.3.1),
+            ap (λ t. t || false) (not_taken (owner_at k.passes k.rows r) (omega (arith, passes_are))),
+          )
+
+      pub avoids_found : (to : ℕ) (k l : Known) → k.passes ≡ passes → to ≤ rows → FindsRow to k l (Some r) → Avoids k.looks l.looks
+      avoids_found to k l passes_are inside found =
+          ⊎_elim
+          (λ at_first. avoids_took to k l passes_are inside at_first)
+          (λ later.
+          avoids_later k later.0 later.1 l to passes_are inside later.2 later.3
+          (avoids_took to later.1 l (ap (λ (z : Known). z.passes) later.3.now ∙ ap (λ (z : Known). z.passes) later.2.1 ∙ passes_are) inside later.4))
+          found
+
+-- a row that was found is one of so many
+pub found_low : (rows r : ℕ) (k l : Known) → FindsRow rows k l (Some r) → r < rows
+found_low rows r k l found = ⊎_elim (λ at_first. at_first.1) (λ later. later.4.1) found
+
+-- ---- looks that take no row x
+
+module _ (passes rows x : ℕ) where
   else_taken : (i w : ℕ) → i ≢ owner_at passes rows x → takes_row passes rows x (i, w) ≡ false
   else_taken i w apart = and_left _ (eqb w 0) (ne_eqb i (owner_at passes rows x) apart)
 
-  owned : (i w : ℕ) → 0 < w → takes_row passes rows x (i, w) ≡ false
-  owned i w some_owner = and_right (eqb i (owner_at passes rows x)) _ (ne_eqb w 0 (λ e. omega arith))
+  scan_takes : (i w j : ℕ) → j < passes → i ≡ reservation_at passes rows j → takes_row passes rows x (i, w) ≡ false
+  scan_takes i w j low at = else_taken i w (λ e. omega (arith, e, low, at))
+
+  owned_takes : (i w r : ℕ) → r < rows → i ≡ owner_at passes rows r → 0 < w → takes_row passes rows x (i, w) ≡ false
+  owned_takes i w r low at some_owner = and_right (eqb i (owner_at passes rows x)) _ (ne_eqb w 0 (λ e. omega arith))
 
   avoids_cells : x < rows → (looks : List Look) → ((i : ℕ) (l : Look) → get_elem? looks i ≡ some l → (r p : ℕ) × (l.0 ≡ cell_at passes rows r p)) → list_any (takes_row passes rows x) looks ≡ false
   avoids_cells inside looks cells = any_none (takes_row passes rows x) looks (λ i l there. let cell = cells i l there in else_taken l.0 l.1 (λ e. let place = cell.2 in omega (arith, e, place, inside)))
-
-  avoids_scan : (p n j : ℕ) (words : List ℕ) → j + length words ≤ passes → list_any (takes_row passes rows x) (looks_of p n j words) ≡ false
-  avoids_scan p n j [] inside = refl
-  avoids_scan p n j (w ∷ words) inside =
-      ap (λ t. t || list_any (takes_row passes rows x) (looks_of p n (j + 1) words)) (else_taken (reservation_at p n j) w (λ e. omega (arith, e, inside))) ∙ avoids_scan p n (j + 1) words (omega arith)
-
-  avoids_owned : (p n from to : ℕ) (looks : List Look) → OnlyTaken p n from to looks → list_any (takes_row passes rows x) looks ≡ false
-  avoids_owned p n from to looks only = any_none (takes_row passes rows x) looks (λ i l there. owned l.0 l.1 (only i l there).3)
-
-  avoids_looked : (from to : ℕ) (k l : Known) → FindsTaken from to k l → Avoids k.looks l.looks
-  avoids_looked from to k l found = (found.0, sym (ap (λ (z : Known). z.looks) found.1), avoids_owned k.passes k.rows from to found.0 found.3)
-
-  avoids_tidied : (k l : Known) → k.passes ≡ passes → Tidies k l → Avoids k.looks l.looks
-  avoids_tidied k l passes_are tidied = (
-    looks_of k.passes k.rows 0 tidied.words,
-    sym (ap (λ (z : Known). z.looks) tidied.now),
-    avoids_scan k.passes k.rows 0 tidied.words (let all = tidied.all in omega (arith, all, passes_are)),
-  )
-
-  avoids_took : (from to r : ℕ) (k l : Known) → k.passes ≡ passes → x ≢ r → Takes from to r k l → Avoids k.looks l.looks
-  avoids_took from to r k l passes_are apart takes =
-      avoids_both k.looks (k.looks ++ takes.3.0) l.looks
-      (takes.3.0, refl, avoids_owned k.passes k.rows from to takes.3.0 takes.3.2) (
-        (owner_at k.passes k.rows r, 0) ∷ [],
-        sym (ap (λ (z : Known). z.looks) takes.3.1),
-        ap (λ t. t || false) (else_taken (owner_at k.passes k.rows r) 0 (λ e. apart (omega (arith, e, passes_are)))),
-      )
-
-  -- a search and a tidy, and then what follows
-  avoids_later : (k l m after : Known) (to : ℕ) → k.passes ≡ passes → FindsTaken 0 to k l → Tidies l m → Avoids m.looks after.looks → Avoids k.looks after.looks
-  avoids_later k l m after to passes_are found tidied then_on =
-      avoids_both k.looks m.looks after.looks
-      (avoids_both k.looks l.looks m.looks (avoids_looked 0 to k l found) (avoids_tidied l m (ap (λ (z : Known). z.passes) found.1 ∙ passes_are) tidied))
-      then_on
-
-  avoids_found : (to r : ℕ) (k l : Known) → k.passes ≡ passes → x ≢ r → FindsRow to k l (Some r) → Avoids k.looks l.looks
-  avoids_found to r k l passes_are apart found =
-      ⊎_elim
-      (λ at_first. avoids_took 0 to r k l passes_are apart at_first)
-      (λ later.
-      avoids_later k later.0 later.1 l to passes_are later.2 later.3
-      (avoids_took 0 to r later.1 l (ap (λ (z : Known). z.passes) later.3.now ∙ ap (λ (z : Known). z.passes) later.2.1 ∙ passes_are) apart later.4))
-      found
-
-  avoids_none : (to : ℕ) (k l : Known) → k.passes ≡ passes → FindsRow to k l None → Avoids k.looks l.looks
-  avoids_none to k l passes_are found =
-      avoids_later k found.0 found.1 l to passes_are found.2 found.3
-      (subst (Avoids found.1.looks) (sym (ap (λ (z : Known). z.looks) found.4.2)) (avoids_looked 0 to found.1 found.4.0 found.4.1))
 
 -- the batches after a search are some of those before
 found_retired : (rows r : ℕ) (k l : Known) → FindsRow rows k l (Some r) → (b : ℕ) → In b (versions_of l.core.retired) → In b (versions_of k.core.retired)
@@ -173,7 +189,7 @@ module _ (k : Known) (marked : List ℕ) (counted : IsCounted k marked) where
         subst (TakesWithin k.passes k.rows (pinned_copy k).rows (k.shape + 3)) (sym since_are)
         ((counts_looks k.passes k.rows).goes_on (pinned_copy k).rows (k.shape + 3) (looks_since k) more counted.within (let both = takes-append k.passes k.rows (looks_since k) more in omega (arith, both, few)))
 
-  untaken_more : (looks : List Look) (x : ℕ) → In x (pinned_copy k).rows → Avoids k.passes k.rows x k.looks looks → list_any (takes_row k.passes k.rows x) (drop k.since looks) ≡ false
+  untaken_more : (looks : List Look) (x : ℕ) → In x (pinned_copy k).rows → Avoids k.passes k.rows (takes_row k.passes k.rows x) k.looks looks → list_any (takes_row k.passes k.rows x) (drop k.since looks) ≡ false
   untaken_more looks x here avoids =
       ap (list_any (takes_row k.passes k.rows x)) (since_are looks avoids.0 avoids.1)
       ∙ list_any-append (takes_row k.passes k.rows x) (looks_since k) avoids.0
@@ -183,7 +199,7 @@ module _ (k : Known) (marked : List ℕ) (counted : IsCounted k marked) where
   counted_moved : (fresh : List ℕ) (retired : List Batch) (scanned : ℕ) (least last : Option ℕ) (written : List Cell) (looks : List Look) (full : Option Shortage) (more : List Look) → k.looks ++ more ≡ looks
       → takes_in k.passes k.rows (looks_since k) + takes_in k.passes k.rows more ≤ rows_read k.passes k.rows (pinned_copy k).rows (looks_since k) + (k.shape + 3)
       → takes_in k.passes k.rows (looks_since k) + takes_in k.passes k.rows more ≤ length fresh
-      → ((x : ℕ) → In x (pinned_copy k).rows → Avoids k.passes k.rows x k.looks looks)
+      → ((x : ℕ) → In x (pinned_copy k).rows → Avoids k.passes k.rows (takes_row k.passes k.rows x) k.looks looks)
       → ((b : ℕ) → In b (versions_of retired) → b + 1 < k.reserves)
       → IsCounted (moved fresh retired scanned least last written looks full k) marked
   counted_moved fresh retired scanned least last written looks full more looked within few avoids older = record {
@@ -267,8 +283,14 @@ module _ (k : Known) (marked : List ℕ) (counted : IsCounted k marked) where
         (room_left (takes_in k.passes k.rows step.0) one)
         (let long = length_push k.core.fresh r in omega (arith, long, taken, one))
         (λ x here.
-        subst (Avoids k.passes k.rows x k.looks) looks
-        (avoids_found k.passes k.rows x k.rows r k l refl (λ e. (let none = took.unread in let same : times x (pinned_copy k).rows ≡ times r (pinned_copy k).rows = ap (λ y. times y (pinned_copy k).rows) e in omega (arith, none, same, here))) found))
+        subst (Avoids k.passes k.rows (takes_row k.passes k.rows x) k.looks) looks
+        (avoids_found k.passes k.rows (takes_row k.passes k.rows x) (scan_takes k.passes k.rows x) (owned_takes k.passes k.rows x) r
+        (λ i at.
+        else_taken k.passes k.rows x i 0 (λ e.
+        let x_is : x ≡ r = omega (arith, e, at) in
+        let none = took.unread in
+        let same : times x (pinned_copy k).rows ≡ times r (pinned_copy k).rows = ap (λ y. times y (pinned_copy k).rows) x_is in omega (arith, none, same, here)))
+        k.rows k l refl (omega arith) found))
         (λ b here. counted.older b (found_retired k.rows r k l found b (subst (λ (z : Known). In b (versions_of z.core.retired)) (sym took.now) here))))
 
     module _ (number : ℕ) (mine : k.core.number ≡ Some number) (found : FindsRow k.rows k l None) where
@@ -328,7 +350,7 @@ module _ (k : Known) (marked : List ℕ) (counted : IsCounted k marked) where
         tree = paid.rows;
         once = λ x. (let few = paid.among x in let one = counted.once x in omega (arith, few, one));
         untaken = λ x here.
-            let avoids = avoids_none k.passes k.rows x k.rows k l refl found in
+            let avoids = avoids_none k.passes k.rows (takes_row k.passes k.rows x) (scan_takes k.passes k.rows x) (owned_takes k.passes k.rows x) k.rows k l refl (omega arith) found in
             ap (λ n. list_any (takes_row k.passes k.rows x) (drop n l.looks)) (ap (λ (z : Known). z.since) (found_none k.rows k l found).now)
             ∙ untaken_more l.looks x (paid_inside (k.shape + 2) paid x here) avoids;
         evidence = none_evidence;

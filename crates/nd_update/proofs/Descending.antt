@@ -8,6 +8,7 @@ use Rattle.pls_archive.specs.declared.point.Point.{Point}
 use Rattle.pls_vectors.specs.Box.{box_of}
 use Rattle.nd_rows.specs.Nodes.{Nodes, rows_of}
 use Rattle.nd_rows.specs.Layout.{IsBoxRow}
+use Rattle.nd_update.specs.Needed.{on_way}
 use Rattle.nd_update.specs.Removal.{without_dominated}
 use Rattle.nd_update.specs.Insertion.{replaced}
 use Rattle.nd_update.specs.Naming.{AreNamed, names_of}
@@ -16,7 +17,8 @@ use Rattle.nd_update.proofs.Arriving.{ahead}
 use Rattle.nd_update.proofs.Descent.{Continues}
 
 -- The node of what is left of the tree at which the point is stands in this fresh row, with what is below it as it was; each fresh row
--- is a name of it or of what is outside, and what is marked, and the way that is still ahead, are the rows that are replaced
+-- is a name of it or of what is outside, and what is marked, and the way that is still ahead, are the rows that are replaced. The way
+-- from the node on is that of the point
 pub record IsFocused (objectives new : ℕ) (p : Point) (t : Nodes) (k : Known) (marked : List ℕ) (row root steps : ℕ) (ns ms : Nodes) (outer outside : List ℕ) : Type 0 where
   pub is_named : AreNamed new (touched new p.value ns) ms
   pub node : HasNode objectives k row ms
@@ -28,6 +30,7 @@ pub record IsFocused (objectives new : ℕ) (p : Point) (t : Nodes) (k : Known) 
   pub goes : Continues objectives new p (without_dominated new p.value t) (known_words k) ns row root outer outside
   -- a leaf without points has the box of the value
   pub boxed : link_count ms ≡ 0 → IsBoxRow objectives (known_words k) row (box_of p.value)
+  pub onwards : (x : ℕ) → In x (on_way p.value ns 0) → In x (on_way p.value (without_dominated new p.value t) 0)
   pub bounded : steps + length (rows_of ms) ≤ MOST_ROWS
 
 abbrev pub IsAt : ℕ → ℕ → Point → Nodes → Known → List ℕ → ℕ → ℕ → ℕ → Type 0

@@ -1,13 +1,12 @@
 -- The way of a point down a tree: what is outside of the node at which it is, and what becomes of the tree as it goes on.
-use Rattle.std.proofs.Common.{◌≡◌, ◌≢◌, ℕ, ◌+◌, ◌<◌, ◌≤◌, inl, inr, ⊎_elim, if◌then◌else◌, eq-eqb, List, [], ◌∷◌, ◌++◌, length, get_or, set, refl, sym, ap, subst, ◌∙◌, arith, append-nil}
-use Rattle.std.proofs.lemmas.Bool.{cases_eq}
+use Rattle.std.proofs.Common.{◌≡◌, ℕ, ◌+◌, inl, if◌then◌else◌, eq-eqb, List, [], ◌∷◌, ◌++◌, set, refl, sym, ap, subst, ◌∙◌, arith, append-nil}
 use Rattle.era_core.specs.Lists.{times, In}
-use Rattle.era_core.specs.Versions.{Cell, look_up}
-use Rattle.era_core.proofs.ListFacts.{times-append, times-head, times-tail, in_head, in_tail, in-append_left, in-append_right}
+use Rattle.era_core.specs.Versions.{Cell}
+use Rattle.era_core.proofs.ListFacts.{times-append, in_head, in_tail, in-append_left, in-append_right}
 use Rattle.pls_archive.specs.declared.point.Point.{Point}
 use Rattle.pls_vectors.specs.Box.{Box, grown}
-use Rattle.nd_rows.specs.declared.layout.TheConstants.{LEAF, INNER}
-use Rattle.nd_rows.specs.Nodes.{Placed, Nodes, no_nodes, leaf, inner, heads, rows_of, followed_by}
+use Rattle.nd_rows.specs.declared.layout.TheConstants.{INNER}
+use Rattle.nd_rows.specs.Nodes.{Nodes, no_nodes, inner, heads, rows_of, followed_by}
 use Rattle.nd_rows.specs.Layout.{IsLinkRow, IsBoxRow, AreWritten}
 use Rattle.nd_update.specs.Insertion.{place_among, with_point}
 use Rattle.nd_update.specs.Naming.{AreNamed, name_of, names_of}

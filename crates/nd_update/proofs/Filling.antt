@@ -1,27 +1,26 @@
 -- Points that a pass puts into leaves in its rows.
-use Rattle.std.proofs.Common.{◌≡◌, ◌≢◌, ℕ, zero, suc, ◌+◌, ◌-◌, ◌*◌, ◌<◌, ◌≤◌, ◌⊎◌, inl, inr, ⊎_elim, true, IsTrue, ℤ, Option, Some, None, MatchOption, List, [], ◌∷◌, ◌++◌, length, map, take, drop, get_or, refl, sym, ap, ap₂, subst, ◌∙◌, arith, length-append}
+use Rattle.std.proofs.Common.{◌≡◌, ◌≢◌, ℕ, zero, suc, ◌+◌, ◌*◌, ◌<◌, ◌≤◌, inl, inr, ⊎_elim, IsTrue, ℤ, Option, Some, None, MatchOption, List, [], ◌∷◌, ◌++◌, length, map, take, drop, get_or, refl, sym, ap, ap₂, subst, ◌∙◌, arith, length-append}
 use Rattle.std.proofs.lemmas.Grind.{flat_map-append}
-use Rattle.std.proofs.lemmas.List.{take_more, take_all, drop-map, take-map, map-append, length-map}
+use Rattle.std.proofs.lemmas.List.{take_more, drop-map, take-map, map-append, length-map}
 use Rattle.std.proofs.lemmas.Bool.{and_parts}
 use Rattle.era_core.specs.declared.sizes.TheConstants.{KINDS}
 use Rattle.era_core.specs.Lists.{times, In}
 use Rattle.era_core.specs.Versions.{Cell, Copy, look_up}
 use Rattle.era_core.proofs.ListFacts.{times-append, times-head, times-tail, in_head, in_tail}
-use Rattle.era_rows.specs.Known.{Known, pinned_copy, known_words}
+use Rattle.era_rows.specs.Known.{known_words}
 use Rattle.era_rows.specs.Passes.{known_of, marked_of, IsReadable}
 use Rattle.era_rows.specs.declared.pass.Pass.{Pass}
 use Rattle.era_rows.specs.declared.rows.Rows.{Rows}
 use Rattle.era_rows.specs.declared.law.Law.{Ghosts}
 use Rattle.pls_archive.specs.declared.call.Entry.{Entry}
 use Rattle.pls_archive.specs.declared.point.Point.{Point}
-use Rattle.pls_archive.specs.Lists.{Every}
 use Rattle.pls_vectors.specs.Box.{Box, box_of, grown, encloses}
 use Rattle.pls_vectors.specs.Dominance.{weakly_dominates}
 use Rattle.pls_vectors.proofs.Boxes.{weakly_dominates-length}
-use Rattle.nd_rows.specs.declared.layout.TheConstants.{LEAF, INNER, FIRST_LINK, IDEAL, NADIR}
+use Rattle.nd_rows.specs.declared.layout.TheConstants.{LEAF, FIRST_LINK, IDEAL, NADIR}
 use Rattle.nd_rows.specs.Nodes.{Placed, rows_with}
 use Rattle.nd_rows.specs.Layout.{HasWords, HasValue, IsLinkRow, IsBoxRow, IsPointRow}
-use Rattle.nd_update.specs.Building.{Elsewhere, Outside, IsBuilding, Does}
+use Rattle.nd_update.specs.Building.{Outside, IsBuilding, Does}
 use Rattle.nd_update.specs.Counted.{IsPaid}
 use Rattle.nd_update.specs.Insertion.{at_places, box_around, grown_by, values_with}
 use Rattle.nd_update.specs.Naming.{IsLeafRow}

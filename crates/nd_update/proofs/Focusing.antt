@@ -1,11 +1,11 @@
 -- The point at a node, as a pass reads the node's row: what the first word tells, and what is asked before a step.
-use Rattle.std.proofs.Common.{◌≡◌, ◌≢◌, ℕ, zero, suc, ◌+◌, ◌*◌, ◌/◌, ◌%◌, ◌<◌, ◌≤◌, inl, inr, ⊎_elim, Some, List, [], ◌∷◌, ◌++◌, length, refl, sym, ap, subst, ◌∙◌, arith, append-nil}
+use Rattle.std.proofs.Common.{◌≡◌, ◌≢◌, ℕ, ◌+◌, ◌*◌, ◌/◌, ◌%◌, ◌≤◌, ⊎_elim, Some, List, [], ◌∷◌, ◌++◌, length, refl, sym, ap, subst, ◌∙◌, arith, append-nil}
 use Rattle.era_core.specs.declared.sizes.TheConstants.{KINDS, MOST_ROWS}
 use Rattle.era_core.specs.Lists.{times, In}
 use Rattle.era_core.specs.Versions.{Copy, look_up}
 use Rattle.era_core.proofs.ListFacts.{in_head, in_tail, in-append_left}
 use Rattle.era_rows.specs.Known.{Known, pinned_copy, known_words}
-use Rattle.era_rows.specs.Passes.{known_of, marked_of, IsReadable}
+use Rattle.era_rows.specs.Passes.{known_of, marked_of}
 use Rattle.era_rows.specs.declared.pass.Pass.{Pass}
 use Rattle.era_rows.specs.declared.rows.Rows.{Rows}
 use Rattle.era_rows.specs.declared.law.Law.{Ghosts}
@@ -77,6 +77,7 @@ module _ {L : Type 0} {G : Ghosts L Entry} (r : Rows L Entry) (objectives : ℕ)
         continues_still objectives r.rows point (without_dominated r.rows point.value t) (known_words (known_of p)) (known_words (known_of q)) ns row root outer outside
         (λ x here. still_words r [] [] [] p q read objectives x refl) is.goes;
     boxed = λ none. box-alike objectives (known_words (known_of p)) (known_words (known_of q)) row (box_of point.value) (still_words r [] [] [] p q read objectives row refl) (is.boxed none);
+    onwards = is.onwards;
     bounded = is.bounded;
   }
 
@@ -106,7 +107,7 @@ module _ {L : Type 0} {G : Ghosts L Entry} (r : Rows L Entry) (objectives : ℕ)
 
     -- an inner node
     module _ (is_inner : w % KINDS ≢ LEAF) where
-      abbrev the_inner : (b : Box) × (kids : Nodes) × (at.1 ≡ inner row b kids no_nodes) × (length (heads kids) ≡ w / KINDS)
+      abbrev pub the_inner : (b : Box) × (kids : Nodes) × (at.1 ≡ inner row b kids no_nodes) × (length (heads kids) ≡ w / KINDS)
       the_inner = as_inner objectives (known_of p) row w word at.1 at.2.1.1.node is_inner
 
       pub inner_focused : IsFocused objectives r.rows point t (known_of q) (marked_of q) row root steps at.0 (inner row the_inner.0 the_inner.1 no_nodes) at.2.0 at.2.1.0

@@ -1,11 +1,11 @@
 -- A full leaf: its points are read one after another, and a leaf is written for each group of them and of one more.
-use Rattle.std.proofs.Common.{◌≡◌, ◌≢◌, ℕ, zero, suc, ◌+◌, ◌-◌, ◌<◌, ◌≤◌, inl, inr, ⊎_elim, ℤ, Some, List, [], ◌∷◌, ◌++◌, length, map, take, get_or, set, refl, sym, ap, subst, ◌∙◌, arith, length-append}
+use Rattle.std.proofs.Common.{◌≡◌, ℕ, zero, suc, ◌+◌, ◌-◌, ◌<◌, ◌≤◌, inl, inr, ⊎_elim, ℤ, Some, List, [], ◌∷◌, ◌++◌, length, map, take, get_or, set, refl, sym, ap, subst, ◌∙◌, arith, length-append}
 use Rattle.std.specs.Prelude.{replicate}
 use Rattle.std.proofs.lemmas.List.{take_all, take_more, length-map}
 use Rattle.era_core.specs.declared.sizes.TheConstants.{MOST_ROWS}
 use Rattle.era_core.specs.Lists.{times, In}
 use Rattle.era_core.specs.Versions.{Cell, look_up}
-use Rattle.era_core.proofs.ListFacts.{times-append, times-head, times-tail, in_head, in_tail, in-append_left, in-append_right}
+use Rattle.era_core.proofs.ListFacts.{times-append, times-tail, in_head, in_tail}
 use Rattle.era_rows.specs.Known.{Known, known_words}
 use Rattle.era_rows.specs.Passes.{known_of, IsReadable}
 use Rattle.era_rows.specs.declared.pass.Pass.{Pass}
@@ -15,7 +15,6 @@ use Rattle.pls_archive.specs.declared.call.Entry.{Entry}
 use Rattle.pls_archive.specs.declared.point.Point.{Point}
 use Rattle.pls_archive.specs.Lists.{Every}
 use Rattle.pls_archive.proofs.Every.{Every-append}
-use Rattle.pls_vectors.specs.Dominance.{IsValue}
 use Rattle.nd_rows.specs.declared.layout.TheConstants.{LEAF, FIRST_LINK, IDEAL, VALUE}
 use Rattle.nd_rows.specs.Nodes.{Placed, no_nodes, rows_with, points_with}
 use Rattle.nd_tree.specs.Split.{split}
@@ -23,7 +22,7 @@ use Rattle.nd_rows.specs.Layout.{HasWords, HasValue, IsLinkRow, IsBoxRow, IsPoin
 use Rattle.nd_rows.proofs.Sides.{word_at}
 use Rattle.nd_update.specs.Building.{Outside, IsBuilding, Does}
 use Rattle.nd_update.specs.Insertion.{at_places, values_with}
-use Rattle.nd_update.specs.FilledLeaves.{HasLinked, IsGroupLeaf, AreGroupLeaves, values_box}
+use Rattle.nd_update.specs.FilledLeaves.{HasLinked, AreGroupLeaves, values_box}
 use Rattle.nd_update.proofs.Alike.{words-alike, value-alike}
 use Rattle.nd_update.proofs.Division.{few-groups, many_groups}
 use Rattle.nd_update.proofs.Building.{does_both, does_write, now_fresh, still_fresh}

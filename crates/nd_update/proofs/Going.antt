@@ -1,13 +1,13 @@
 -- A pass that builds has the entries and the version that it had.
-use Rattle.std.proofs.Common.{◌≡◌, ℕ, ◌+◌, ◌*◌, ◌≤◌, List, length, sym, ap, subst, ◌∙◌, arith}
+use Rattle.std.proofs.Common.{◌≡◌, ℕ, List, length, sym, ap, subst, ◌∙◌, arith}
 use Rattle.era_core.specs.Versions.{Copy}
 use Rattle.era_rows.specs.Known.{Known, pinned_copy}
-use Rattle.era_rows.specs.Passes.{known_of, marked_of, IsPassOf, HasSame}
+use Rattle.era_rows.specs.Passes.{known_of, marked_of, IsPassOf}
 use Rattle.era_rows.specs.declared.pass.Pass.{Pass}
 use Rattle.era_rows.specs.declared.rows.Rows.{Rows}
 use Rattle.era_rows.specs.declared.law.Law.{Ghosts}
 use Rattle.pls_archive.specs.declared.call.Entry.{Entry}
-use Rattle.nd_rows.specs.Reads.{ReadsIn}
+use Rattle.nd_rows.specs.Reads.{ReadsIn, HasKept}
 use Rattle.nd_update.specs.Building.{Builds, Does, Goes}
 use Rattle.nd_update.specs.Counted.{IsCounted, IsWithin, IsCrowded, IsShort}
 use Rattle.nd_update.proofs.Building.{builds_both, same_copy}
@@ -35,19 +35,17 @@ module _ {L : Type 0} {G : Ghosts L Entry} (r : Rows L Entry) where
     same_number = one.same_number;
     same_seen = one.same_seen;
     same_lists = one.same_lists;
-    same_memory = one.same_memory;
     builds = one.builds;
   }
 
   -- a look at rows of the pinned version
-  pub goes_reads : (rows : List ℕ) (p q : Pass L Entry G) → IsPassOf r q → HasSame p q → ReadsIn rows (known_of p) (known_of q) → Goes r p q
-  goes_reads rows p q is_pass same reads =
+  pub goes_reads : (rows : List ℕ) (p q : Pass L Entry G) → IsPassOf r q → HasKept p q → ReadsIn rows (known_of p) (known_of q) → Goes r p q
+  goes_reads rows p q is_pass kept reads =
       let now = reads.now in record {
         is_pass = is_pass;
-        same_number = same.same_pass.same_number;
-        same_seen = same.same_seen;
-        same_lists = same.same_lists;
-        same_memory = same.same_pass.same_memory;
+        same_number = kept.same_number;
+        same_seen = kept.same_seen;
+        same_lists = kept.same_lists;
         builds = record {
           number = ap (λ (k : Known). k.core.number) now;
           pinned = ap (λ (k : Known). k.core.pinned) now;
@@ -61,8 +59,8 @@ module _ {L : Type 0} {G : Ghosts L Entry} (r : Rows L Entry) where
       }
 
   -- few rows were taken before and so after it
-  pub reads_counted : (rows : List ℕ) (p q : Pass L Entry G) → HasSame p q → ReadsIn rows (known_of p) (known_of q) → IsCounted (known_of p) (marked_of p) → IsCounted (known_of q) (marked_of q)
-  reads_counted rows p q same reads counted = subst (IsCounted (known_of q)) (sym same.same_marks) (counted_reads (known_of p) (marked_of p) counted rows (known_of q) p.tied.tree.inside reads)
+  pub reads_counted : (rows : List ℕ) (p q : Pass L Entry G) → HasKept p q → ReadsIn rows (known_of p) (known_of q) → IsCounted (known_of p) (marked_of p) → IsCounted (known_of q) (marked_of q)
+  reads_counted rows p q kept reads counted = subst (IsCounted (known_of q)) (sym kept.same_marks) (counted_reads (known_of p) (marked_of p) counted rows (known_of q) p.tied.tree.inside reads)
 
   pub goes_both : (p q s : Pass L Entry G) → Goes r p q → Goes r q s → Goes r p s
   goes_both p q s one two = record {
@@ -70,6 +68,5 @@ module _ {L : Type 0} {G : Ghosts L Entry} (r : Rows L Entry) where
     same_number = two.same_number ∙ one.same_number;
     same_seen = two.same_seen ∙ one.same_seen;
     same_lists = two.same_lists ∙ one.same_lists;
-    same_memory = two.same_memory ∙ one.same_memory;
     builds = builds_both (known_of p) (known_of q) (known_of s) one.builds two.builds;
   }

@@ -1,6 +1,6 @@
 -- What a pass did before it found no row free, and a change of its list afterwards.
 use Rattle.std.proofs.Common.{◌≡◌, List, ℕ, sym, ap, subst, ◌∙◌}
-use Rattle.era_rows.specs.Passes.{known_of, knows_of, memory_of, IsPassOf}
+use Rattle.era_rows.specs.Passes.{known_of, knows_of, IsPassOf}
 use Rattle.era_rows.specs.declared.pass.Pass.{Pass}
 use Rattle.era_rows.specs.declared.rows.Rows.{Rows}
 use Rattle.era_rows.specs.declared.law.Law.{Ghosts}
@@ -17,7 +17,6 @@ module _ {L : Type 0} {G : Ghosts L Entry} (r : Rows L Entry) where
       same_number = lacks.goes.same_number ∙ does.same_number;
       same_seen = lacks.goes.same_seen ∙ does.same_seen;
       same_lists = lacks.goes.same_lists ∙ does.same_lists;
-      same_memory = lacks.goes.same_memory ∙ does.same_memory;
       builds = builds_both (known_of p) (known_of q) (known_of s) does.builds lacks.goes.builds;
     };
     within = lacks.within;
@@ -26,15 +25,14 @@ module _ {L : Type 0} {G : Ghosts L Entry} (r : Rows L Entry) where
   }
 
   -- the list alone has changed
-  pub lacks_work : (p q s : Pass L Entry G) → Lacks r p q → ((x : Rows L Entry) → IsPassOf x q → IsPassOf x s) → s.number ≡ q.number → knows_of s ≡ knows_of q → memory_of s ≡ memory_of q → Lacks r p s
-  lacks_work p q s lacks pass number knows memory =
+  pub lacks_work : (p q s : Pass L Entry G) → Lacks r p q → ((x : Rows L Entry) → IsPassOf x q → IsPassOf x s) → s.number ≡ q.number → knows_of s ≡ knows_of q → Lacks r p s
+  lacks_work p q s lacks pass number knows =
       let same = sym (ap (λ k. k.view) knows) in record {
         goes = record {
           is_pass = pass r lacks.goes.is_pass;
           same_number = number ∙ lacks.goes.same_number;
           same_seen = ap (λ k. k.seen) knows ∙ lacks.goes.same_seen;
           same_lists = ap (λ k. k.lists) knows ∙ lacks.goes.same_lists;
-          same_memory = memory ∙ lacks.goes.same_memory;
           builds = subst (Builds (known_of p)) same lacks.goes.builds;
         };
         within = subst IsWithin same lacks.within;

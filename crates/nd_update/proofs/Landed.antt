@@ -1,5 +1,5 @@
 -- The point at the end of its way: a leaf, of which the first word was read.
-use Rattle.std.proofs.Common.{◌≡◌, ℕ, ◌/◌, ◌%◌, ◌≤◌, Some, List, [], ◌∷◌, length, arith}
+use Rattle.std.proofs.Common.{◌≡◌, ℕ, ◌/◌, ◌%◌, ◌≤◌, Some, List, [], ◌∷◌, length}
 use Rattle.era_core.specs.declared.sizes.TheConstants.{KINDS}
 use Rattle.era_core.specs.Versions.{look_up}
 use Rattle.era_rows.specs.Known.{known_words}

@@ -1,12 +1,11 @@
 -- The point at a leaf: what the pass has written there is the leaf with the point, or an inner node with a leaf for each group; and
 -- then the whole tree stands in its rows.
-use Rattle.std.proofs.Common.{◌≡◌, ◌≢◌, ℕ, zero, suc, ◌+◌, ◌<◌, ◌≤◌, inl, inr, ⊎_elim, nat_le, if◌then◌else◌, true, false, ℤ, Some, List, [], ◌∷◌, ◌++◌, length, take, drop, refl, sym, ap, ap₂, subst, ◌∙◌, arith, append-nil, length-append}
+use Rattle.std.proofs.Common.{◌≡◌, ◌≢◌, ℕ, zero, suc, ◌+◌, ◌<◌, ◌≤◌, inl, ⊎_elim, if◌then◌else◌, List, [], ◌∷◌, ◌++◌, length, take, drop, refl, sym, ap, ap₂, subst, ◌∙◌, arith, append-nil, length-append}
 use Rattle.std.proofs.lemmas.Bool.{cases_eq, le-leb, lt-leb}
-use Rattle.era_core.specs.declared.sizes.TheConstants.{KINDS}
 use Rattle.era_core.specs.Lists.{times, In}
 use Rattle.era_core.specs.Versions.{Cell, look_up}
-use Rattle.era_core.proofs.ListFacts.{times-append, times-head, times-tail, in_head, in_tail, in-append_left}
-use Rattle.era_rows.specs.Known.{Known, known_words}
+use Rattle.era_core.proofs.ListFacts.{times-append, times-head, times-tail, in_tail, in-append_left}
+use Rattle.era_rows.specs.Known.{known_words}
 use Rattle.era_rows.specs.Passes.{known_of, marked_of}
 use Rattle.era_rows.specs.declared.pass.Pass.{Pass}
 use Rattle.era_rows.specs.declared.rows.Rows.{Rows}
@@ -17,17 +16,17 @@ use Rattle.pls_archive.specs.Lists.{Every}
 use Rattle.pls_archive.proofs.Every.{Every-append, Every-map}
 use Rattle.pls_vectors.specs.Box.{Box, box_of}
 use Rattle.nd_tree.specs.Split.{split}
-use Rattle.nd_rows.specs.declared.layout.TheConstants.{LEAF, INNER, IDEAL}
-use Rattle.nd_rows.specs.Nodes.{Placed, Nodes, no_nodes, leaf, inner, heads, rows_of, rows_with, points_with}
+use Rattle.nd_rows.specs.declared.layout.TheConstants.{INNER, IDEAL}
+use Rattle.nd_rows.specs.Nodes.{Placed, Nodes, no_nodes, leaf, inner, heads, rows_of, rows_with}
 use Rattle.nd_rows.specs.Layout.{IsLinkRow, IsBoxRow, IsPointRow, AreWritten}
-use Rattle.nd_update.specs.Building.{IsBuilding, Does}
+use Rattle.nd_update.specs.Building.{Does}
 use Rattle.nd_update.specs.Insertion.{at_places, box_around, values_with, leaf_box, group_leaves, divided, new_placed, with_point, updated}
-use Rattle.nd_update.specs.Naming.{HasName, ArePlacedNamed, AreNamed, names_of}
+use Rattle.nd_update.specs.Naming.{ArePlacedNamed, AreNamed, names_of}
 use Rattle.nd_update.specs.Removal.{without_dominated}
-use Rattle.nd_update.specs.FilledLeaves.{AreGroupLeaves, leaves_in, AreDivided, IsPut, values_box}
+use Rattle.nd_update.specs.FilledLeaves.{AreGroupLeaves, leaves_in, IsPut, values_box}
 use Rattle.nd_update.specs.Inserted.{IsInserted}
 use Rattle.nd_update.specs.Ways.{touched}
-use Rattle.nd_update.proofs.Alike.{Agree, points-alike}
+use Rattle.nd_update.proofs.Alike.{points-alike}
 use Rattle.nd_update.proofs.Descending.{IsFocused}
 use Rattle.nd_update.proofs.Descent.{continues_still}
 use Rattle.nd_update.proofs.Division.{points-Every, rows-divided}

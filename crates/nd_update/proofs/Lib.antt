@@ -27,6 +27,7 @@ pub mod Linking
 pub mod Focusing
 pub mod Landing
 pub mod Landed
+pub mod OnWay
 pub mod Alone
 pub mod Swept
 pub mod Settled
@@ -49,6 +50,10 @@ pub mod Going
 pub mod Uncovered
 pub mod Published
 pub mod Paying
+pub mod Reading
+pub mod Opening
+pub mod OneTree
+pub mod Needed
 pub mod Counting
 pub mod Sizes
 mod WorkedUpdates

@@ -1,20 +1,19 @@
 -- The link to a child that stands in another row now.
 use Rattle.std.proofs.Common.{◌≡◌, ◌≢◌, ℕ, zero, suc, ◌+◌, ◌*◌, ◌<◌, ◌≤◌, ◌⊎◌, inl, inr, ⊎_elim, Some, ℤ, List, [], ◌∷◌, ◌++◌, length, get_or, set, refl, sym, ap, subst, ◌∙◌, arith, append-nil}
-use Rattle.std.proofs.lemmas.Bool.{cases_eq}
 use Rattle.era_core.specs.declared.sizes.TheConstants.{KINDS}
 use Rattle.era_core.specs.Lists.{times, In}
 use Rattle.era_core.specs.Versions.{Cell, look_up}
-use Rattle.era_core.proofs.ListFacts.{times-append, times-head, times-tail, in_head}
-use Rattle.era_rows.specs.Known.{Known, known_words}
-use Rattle.era_rows.specs.Passes.{known_of, IsReadable}
+use Rattle.era_core.proofs.ListFacts.{times-head, times-tail, in_head}
+use Rattle.era_rows.specs.Known.{known_words}
+use Rattle.era_rows.specs.Passes.{known_of}
 use Rattle.era_rows.specs.declared.pass.Pass.{Pass}
 use Rattle.era_rows.specs.declared.rows.Rows.{Rows}
 use Rattle.era_rows.specs.declared.law.Law.{Ghosts}
 use Rattle.pls_archive.specs.declared.call.Entry.{Entry}
 use Rattle.pls_vectors.specs.Box.{Box}
-use Rattle.nd_rows.specs.declared.layout.TheConstants.{INNER, FIRST_LINK, IDEAL}
+use Rattle.nd_rows.specs.declared.layout.TheConstants.{INNER, FIRST_LINK}
 use Rattle.nd_rows.specs.Nodes.{Nodes, no_nodes, inner, heads, rows_of}
-use Rattle.nd_rows.specs.Layout.{HasWords, IsLinkRow, IsBoxRow}
+use Rattle.nd_rows.specs.Layout.{HasWords, IsLinkRow}
 use Rattle.nd_update.specs.Building.{Outside, Does}
 use Rattle.nd_update.specs.Insertion.{place_among}
 use Rattle.nd_update.specs.Ways.{HasNode, IsOwned, IsStepped, touched, at_node}

@@ -1,9 +1,9 @@
 -- A pass looks at one node of its list: what it finds in its row, and what was done.
-use Rattle.std.proofs.Common.{◌≡◌, ℕ, zero, suc, ◌/◌, ◌<◌, ◌≤◌, Bool, true, false, Option, Some, List, [], ◌∷◌, length, refl, sym, ap, subst, ◌∙◌, arith, ℤ}
+use Rattle.std.proofs.Common.{◌≡◌, ℕ, zero, suc, ◌/◌, ◌<◌, ◌≤◌, Bool, true, false, Option, Some, List, [], ◌∷◌, length, take, refl, sym, ap, subst, ◌∙◌, arith, ℤ}
 use Rattle.std.specs.Prelude.{is_none}
 use Rattle.era_core.specs.Lists.{In}
 use Rattle.era_core.specs.Versions.{Copy, look_up}
-use Rattle.era_rows.specs.Known.{pinned_copy}
+use Rattle.era_rows.specs.Known.{Known, pinned_copy}
 use Rattle.era_rows.specs.Passes.{knows_of, known_of, marked_of, memory_of, work_of, IsPassOf}
 use Rattle.era_rows.specs.declared.pass.Pass.{Pass}
 use Rattle.era_rows.specs.declared.rows.Rows.{Rows}
@@ -18,6 +18,7 @@ use Rattle.nd_rows.specs.Walk.{BeginAt, side_of}
 use Rattle.nd_rows.proofs.Looks.{row_small, row_there, stays}
 use Rattle.nd_rows.proofs.Pending.{links_of, box_of_first, row_among, first_there, links_count, count_small, box_row}
 use Rattle.nd_update.specs.Building.{IsBuilding, Does}
+use Rattle.nd_update.specs.Needed.{ReadsOnly}
 use Rattle.nd_update.specs.Sweeps.{Lists}
 use Rattle.nd_update.proofs.Building.{looks_do, read_does}
 use Rattle.nd_update.proofs.Removing.{does_work}
@@ -43,6 +44,9 @@ module _ {L : Type 0} {G : Ghosts L Entry} (r : Rows L Entry) where
 
     pub node_row : In row (pinned_copy (known_of p)).rows
     node_row = row_among r.shape (pinned_copy (known_of p)) row ns node_begin
+
+    pub node_only : (k l : Known) → ReadsOnly (row ∷ []) k l → ReadsOnly (take 1 (heads ns)) k l
+    node_only k l only = subst (λ xs. ReadsOnly xs k l) (sym (ap (take 1) node_begin.here)) only
 
     pub node_small : row < 262144
     node_small = row_small p row node_row

@@ -1,5 +1,5 @@
 -- A node gets a row of the pass.
-use Rattle.std.proofs.Common.{◌≡◌, ◌≢◌, ℕ, zero, suc, ◌+◌, ◌*◌, ◌/◌, ◌<◌, ◌≤◌, inl, inr, ⊎_elim, Bool, true, false, Option, Some, None, MatchOption, List, [], ◌∷◌, ◌++◌, length, get_or, refl, sym, ap, subst, ◌∙◌, arith, append-nil, ℤ}
+use Rattle.std.proofs.Common.{◌≡◌, ℕ, zero, suc, ◌+◌, ◌*◌, ◌/◌, ◌<◌, ◌≤◌, inl, inr, ⊎_elim, false, Option, Some, None, MatchOption, List, [], ◌∷◌, ◌++◌, length, get_or, refl, sym, ap, subst, ◌∙◌, arith, append-nil, ℤ}
 use Rattle.era_core.specs.declared.sizes.TheConstants.{KINDS}
 use Rattle.era_core.specs.Lists.{times, In, is_in}
 use Rattle.era_core.specs.Versions.{Copy, look_up}
@@ -12,18 +12,17 @@ use Rattle.era_rows.specs.declared.pass.Pass.{Pass}
 use Rattle.era_rows.specs.declared.rows.Rows.{Rows}
 use Rattle.era_rows.specs.declared.law.Law.{Ghosts}
 use Rattle.pls_archive.specs.declared.call.Entry.{Entry}
-use Rattle.pls_vectors.specs.Box.{Box}
 use Rattle.nd_rows.specs.declared.layout.TheConstants.{FIRST_LINK, IDEAL, NADIR}
-use Rattle.nd_rows.specs.Nodes.{Placed, Nodes, no_nodes, leaf, inner, heads, rows_of, rows_with}
+use Rattle.nd_rows.specs.Nodes.{Nodes, no_nodes, leaf, inner, heads, rows_of, rows_with}
 use Rattle.nd_rows.specs.Layout.{HasWords, IsLinkRow, IsBoxRow}
 use Rattle.nd_update.specs.Building.{Outside, IsBuilding, Does}
 use Rattle.nd_update.specs.Counted.{IsPaid, WasRead}
 use Rattle.nd_update.specs.Ways.{IsBox, HasNode, IsOwned, touched, touched_box, link_count}
 use Rattle.nd_update.proofs.Alike.{words-alike, links-alike}
-use Rattle.nd_update.proofs.Building.{does_both, does_write, does_wider, writes_both, still_fresh, now_fresh, words_outside, still_pinned}
+use Rattle.nd_update.proofs.Building.{does_both, does_write, does_wider, still_fresh, now_fresh, words_outside, still_pinned}
 use Rattle.nd_update.proofs.Filling.{taken_apart, still_words}
 use Rattle.nd_update.proofs.Paying.{still_read, paid_marked}
-use Rattle.nd_update.proofs.Touching.{kind_of, links_of, node_touched, node_first, node_box, node_alone, box_of_one, box_grown, corners_long}
+use Rattle.nd_update.proofs.Touching.{kind_of, links_of, node_touched, node_first, node_box, node_alone, box_of_one, box_grown}
 
 pub match_none : {A : Type 0} (o : Option A) (N : Type 0) (P : A → Type 0) → o ≡ None → N → MatchOption o N P
 match_none o N P none is = subst (λ x. MatchOption x N P) (sym none) is

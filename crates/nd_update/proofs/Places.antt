@@ -1,16 +1,13 @@
 -- A node among its siblings: the one to which a value goes, and those beside it.
-use Rattle.std.proofs.Common.{◌≡◌, ℕ, zero, suc, ◌+◌, ◌<◌, ◌≤◌, inl, inr, nat_le, if◌then◌else◌, List, [], ◌∷◌, ◌++◌, length, get_or, set, refl, sym, ap, ap₂, subst, ◌∙◌, arith, append_assoc, ℤ}
-use Rattle.std.proofs.lemmas.Bool.{cases_eq}
-use Rattle.era_core.specs.Lists.{times, In}
+use Rattle.std.proofs.Common.{◌≡◌, ℕ, zero, suc, ◌<◌, nat_le, if◌then◌else◌, List, [], ◌∷◌, ◌++◌, length, get_or, set, refl, sym, ap, ◌∙◌, arith, append_assoc}
 use Rattle.era_core.specs.Versions.{Cell}
-use Rattle.era_core.proofs.ListFacts.{times-append}
 use Rattle.pls_archive.specs.declared.point.Point.{Point}
 use Rattle.pls_archive.specs.Lists.{Every}
 use Rattle.nd_tree.specs.Split.{split}
-use Rattle.nd_rows.specs.Nodes.{Placed, Nodes, no_nodes, leaf, inner, heads, rows_of, rows_with, points_of, followed_by}
+use Rattle.nd_rows.specs.Nodes.{Placed, Nodes, no_nodes, leaf, inner, heads, rows_of, rows_with, followed_by}
 use Rattle.nd_rows.specs.Layout.{IsPointRow, AreWritten}
-use Rattle.nd_update.specs.Insertion.{values_with, group_leaves, divided, leaf_box, place_among, new_placed, with_point, way}
-use Rattle.nd_update.specs.Naming.{ArePlacedNamed, AreNamed, names_of, ArePlacedWritten, AreNamesWritten}
+use Rattle.nd_update.specs.Insertion.{values_with, group_leaves, divided, leaf_box, new_placed, with_point, way}
+use Rattle.nd_update.specs.Naming.{ArePlacedNamed, AreNamed, ArePlacedWritten, AreNamesWritten}
 use Rattle.nd_update.specs.Ways.{AreFit, at_node}
 use Rattle.nd_update.proofs.Filters.{by_test}
 

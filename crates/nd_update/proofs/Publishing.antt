@@ -1,37 +1,35 @@
 -- The tree that was written, with the point, may be published.
-use Rattle.std.proofs.Common.{◌≡◌, ◌≢◌, ℕ, ◌+◌, ◌-◌, ◌^◌, ◌<◌, ◌≤◌, ◌⊎◌, inl, inr, ⊎_elim, min, false, Some, List, [], ◌∷◌, ◌++◌, length, take, refl, sym, ap, subst, ◌∙◌, arith, length-append, zero, suc, Bool, true}
+use Rattle.std.proofs.Common.{◌≡◌, ◌≢◌, ℕ, ◌+◌, ◌-◌, ◌^◌, ◌<◌, ◌≤◌, ◌⊎◌, inl, inr, ⊎_elim, min, false, List, [], ◌∷◌, ◌++◌, length, take, refl, sym, ap, subst, ◌∙◌, arith, length-append, zero, suc, Bool, true}
 use Rattle.std.proofs.lemmas.Bool.{cases_eq}
 use Rattle.era_core.specs.Lists.{times, In, without}
 use Rattle.era_core.specs.Versions.{Cell, Copy, look_up}
-use Rattle.era_core.proofs.ListFacts.{times-head, in_head}
+use Rattle.era_core.proofs.ListFacts.{in_head}
 use Rattle.era_core.proofs.Room.{length-below}
-use Rattle.era_rows.specs.Known.{Known, pinned_copy, known_words, copy_known, copy_by}
-use Rattle.era_rows.specs.May.{AreReplaced, MayPublish}
-use Rattle.era_rows.specs.Passes.{known_of, knows_of, seen_of, marked_of, IsPassOf}
+use Rattle.era_rows.specs.Known.{pinned_copy, known_words, copy_known, copy_by}
+use Rattle.era_rows.specs.Passes.{known_of, seen_of, marked_of, IsPassOf}
 use Rattle.era_rows.specs.declared.pass.Pass.{Pass}
 use Rattle.era_rows.specs.declared.rows.Rows.{Rows}
 use Rattle.era_rows.specs.declared.law.Law.{Ghosts}
 use Rattle.pls_archive.specs.declared.call.Entry.{Entry}
 use Rattle.pls_archive.specs.declared.point.Point.{Point}
-use Rattle.pls_archive.specs.History.{accepts}
 use Rattle.pls_archive.specs.Lists.{how_many, one_if}
 use Rattle.pls_archive.specs.Reply.{some_weakly_dominates}
 use Rattle.pls_vectors.specs.Dominance.{weakly_dominates}
 use Rattle.nd_rows.specs.Nodes.{Placed, Nodes, no_nodes, leaf, inner, heads, rows_of, rows_with, points_of, points_with, AreFormed}
-use Rattle.nd_rows.specs.Layout.{IsTreeOf, IsLawful, StandsFor}
+use Rattle.nd_rows.specs.Layout.{IsTreeOf, StandsFor}
 use Rattle.nd_rows.specs.Entries.{IsRight, added}
 use Rattle.nd_rows.specs.NdLaws.{links_are}
 use Rattle.nd_rows.specs.Reads.{HasPinnedTree}
 use Rattle.nd_update.specs.Building.{Builds, IsBuilding}
 use Rattle.nd_update.specs.Built.{IsPublishable}
-use Rattle.nd_update.specs.declared.builds.Built.{Built}
-use Rattle.nd_update.specs.Insertion.{updated, replaced}
+use Rattle.nd_update.specs.Insertion.{updated}
 use Rattle.nd_update.specs.Naming.{AreNamed, name_of, names_with, names_of}
 use Rattle.nd_update.specs.Updates.{MayUpdate, IsUpdate, IsWritten, IsNewTree, removed_from}
 use Rattle.nd_update.specs.Left.{hits}
 use Rattle.nd_update.specs.Inserted.{IsInserted}
 use Rattle.nd_update.proofs.Building.{same_copy, pinned_words}
-use Rattle.nd_update.proofs.Links.{tree_made, rows_made}
+use Rattle.nd_update.proofs.Removing.{inside_now}
+use Rattle.nd_update.proofs.Links.{tree_made}
 use Rattle.nd_update.proofs.Naming.{name-new, formed-named, rows-named, names-new}
 use Rattle.nd_update.proofs.Updates.{updates, is_written_tree, stands_for}
 
@@ -69,6 +67,22 @@ how_many-few test (x ∷ xs) = let rest = how_many-few test xs in let one = one_
     one_most true = omega arith
     one_most false = omega arith
 
+-- an update by a point that no point of the pinned tree covers may be, also where the pass has gone on
+module _ {L : Type 0} {G : Ghosts L Entry} (r : Rows L Entry) (p : Pass L Entry G) (t : Nodes) (point : Point) where
+  pub may_be : IsPassOf r p → IsTreeOf r.shape (pinned_copy (known_of p)) t → length point.value ≡ r.shape → 2 ≤ r.shape → r.shape ≤ 4 → some_weakly_dominates (points_of t) point.value ≡ false
+      → MayUpdate r.shape r.rows point (pinned_copy (known_of p)) t
+  may_be is_pass is parts some few uncovered = record {
+    is_tree = is;
+    some = some;
+    few = few;
+    parts = parts;
+    uncovered = uncovered;
+    no_row = absent r.rows (pinned_copy (known_of p)).rows (inside_now r p is_pass);
+  }
+
+  pub may_on : MayUpdate r.shape r.rows point (pinned_copy (known_of p)) t → (q : Pass L Entry G) → Builds (known_of p) (known_of q) → MayUpdate r.shape r.rows point (pinned_copy (known_of q)) t
+  may_on may q builds = subst (λ (d : Copy). MayUpdate r.shape r.rows point d t) (sym (same_copy (known_of p) (known_of q) builds)) may
+
 module _ {L : Type 0} {G : Ghosts L Entry} (r : Rows L Entry) (p : Pass L Entry G) (n : ℕ) (tree : HasPinnedTree r n p) (point : Point) where
   abbrev t : Nodes
   t = tree.stands.0
@@ -80,15 +94,15 @@ module _ {L : Type 0} {G : Ghosts L Entry} (r : Rows L Entry) (p : Pass L Entry 
   is = tree.stands.1
 
   row_inside : (x : ℕ) → In x c.rows → x < r.rows
-  row_inside x here = let low = p.tied.tree.inside x here in let same = tree.is_pass.sized.rows_are in omega arith
+  row_inside x here = inside_now r p tree.is_pass x here
 
   -- the update may be
   pub may_update : length point.value ≡ r.shape → 2 ≤ r.shape → r.shape ≤ 4 → some_weakly_dominates (points_of t) point.value ≡ false → MayUpdate r.shape r.rows point c t
-  may_update parts some few uncovered = record { is_tree = is; some = some; few = few; parts = parts; uncovered = uncovered; no_row = absent r.rows c.rows row_inside }
+  may_update parts some few uncovered = may_be r p t point tree.is_pass is parts some few uncovered
 
   -- also where the pass has gone on
   pub still_may : MayUpdate r.shape r.rows point c t → (q : Pass L Entry G) → Builds (known_of p) (known_of q) → MayUpdate r.shape r.rows point (pinned_copy (known_of q)) t
-  still_may may q builds = subst (λ (d : Copy). MayUpdate r.shape r.rows point d t) (sym (same_copy (known_of p) (known_of q) builds)) may
+  still_may may q builds = may_on r p t point may q builds
 
   -- no more points go than there are
   pub hits_few : hits point.value (points_of t) ≤ r.rows

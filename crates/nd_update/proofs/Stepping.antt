@@ -1,11 +1,11 @@
 -- A step of the point from a node to the closest child.
-use Rattle.std.proofs.Common.{◌≡◌, ◌≢◌, ℕ, zero, suc, ◌+◌, ◌<◌, ◌≤◌, inl, inr, ⊎_elim, List, [], ◌∷◌, ◌++◌, length, get_or, set, refl, sym, ap, ap₂, subst, ◌∙◌, arith, append-nil, length-append, ℤ}
+use Rattle.std.proofs.Common.{◌≡◌, ◌≢◌, ℕ, zero, suc, ◌+◌, ◌<◌, ◌≤◌, inr, ⊎_elim, List, [], ◌∷◌, ◌++◌, length, get_or, set, refl, sym, ap, ap₂, subst, ◌∙◌, arith, append-nil, length-append, ℤ}
 use Rattle.std.proofs.lemmas.Bool.{cases_eq}
 use Rattle.era_core.specs.declared.sizes.TheConstants.{MOST_ROWS}
 use Rattle.era_core.specs.Lists.{times, In}
 use Rattle.era_core.specs.Versions.{Copy}
 use Rattle.era_core.proofs.ListFacts.{times-append, times-head, times-tail, in_head, in_tail, in-append_left, in-append_right}
-use Rattle.era_rows.specs.Known.{Known, pinned_copy, known_words}
+use Rattle.era_rows.specs.Known.{pinned_copy, known_words}
 use Rattle.era_rows.specs.Passes.{known_of, marked_of, IsReadable}
 use Rattle.era_rows.specs.declared.pass.Pass.{Pass}
 use Rattle.era_rows.specs.declared.rows.Rows.{Rows}
@@ -15,11 +15,12 @@ use Rattle.pls_archive.specs.declared.point.Point.{Point}
 use Rattle.pls_vectors.specs.Box.{Box, grown}
 use Rattle.nd_tree.specs.Closest.{closest}
 use Rattle.nd_rows.specs.declared.layout.TheConstants.{INNER}
-use Rattle.nd_rows.specs.Nodes.{Placed, Nodes, no_nodes, leaf, inner, heads, rows_of, rows_with, followed_by}
+use Rattle.nd_rows.specs.Nodes.{Nodes, no_nodes, leaf, inner, heads, rows_of, rows_with, followed_by}
 use Rattle.nd_rows.specs.Layout.{IsLinkRow, IsBoxRow, AreWritten}
 use Rattle.nd_update.specs.Building.{IsBuilding, Does}
 use Rattle.nd_update.specs.Insertion.{boxes_of, place_among, way}
 use Rattle.nd_update.specs.Naming.{AreNamed, names_of}
+use Rattle.nd_update.specs.Needed.{on_way}
 use Rattle.nd_update.specs.Removal.{without_dominated}
 use Rattle.nd_update.specs.Ways.{HasNode, IsOwned, IsStepped, touched, link_count, at_node, child_row}
 use Rattle.nd_update.proofs.Alike.{Agree, written-alike}
@@ -45,6 +46,14 @@ boxes_named new (leaf r b placed later) (inner name box named others) are = absu
 boxes_named new (inner r b kids later) no_nodes are = absurd are
 boxes_named new (inner r b kids later) (leaf name box named others) are = absurd are
 boxes_named new (inner r b kids later) (inner name box named others) are = ap₂ (λ x xs. x ∷ xs) are.1 (boxes_named new later others are.3)
+
+-- the way from a node on is that of the node alone
+way-at : (v : List ℤ) (ns : Nodes) (k : ℕ) → on_way v ns k ≡ on_way v (at_node ns k) 0
+way-at v no_nodes k = refl
+way-at v (leaf r b placed later) zero = refl
+way-at v (leaf r b placed later) (suc k) = way-at v later k
+way-at v (inner r b kids later) zero = refl
+way-at v (inner r b kids later) (suc k) = way-at v later k
 
 -- the rows of a node whose row is another one now
 pub rows_touched : (own : ℕ) (v : List ℤ) (ms : Nodes) (x : ℕ) → x ≢ own → times x (rows_of (touched own v ms)) ≤ times x (rows_of ms)
@@ -283,6 +292,7 @@ module _ {L : Type 0} {G : Ghosts L Entry} (r : Rows L Entry) (objectives : ℕ)
             (continues_still objectives r.rows point (without_dominated r.rows v t) (known_words (known_of p)) (known_words (known_of q)) (inner r₀ b₀ kids no_nodes) row root outer outside (λ x here. still_words r taken marked (own ∷ row ∷ []) p q one objectives x (outside_apart x here)) is.goes)
             parts now_links now_boxed now_first now_rest;
         boxed = λ none. absurd (now_some none);
+        onwards = λ x here. is.onwards x (in_tail x r₀ _ (in-append_right x (heads kids) (on_way v kids place) (subst (In x) (sym (way-at v kids place)) here)));
         bounded = now_bounded;
       }
 

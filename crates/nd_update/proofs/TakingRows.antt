@@ -60,7 +60,6 @@ module _ {L : Type 0} {G : Ghosts L Entry} (r : Rows L Entry) (p q : Pass L Entr
           same_number = same.same_pass.same_number;
           same_seen = same.same_seen;
           same_lists = same.same_lists;
-          same_memory = same.same_pass.same_memory;
           builds = record {
             number = ap (λ (x : Known). x.core.number) now;
             pinned = ap (λ (x : Known). x.core.pinned) now;

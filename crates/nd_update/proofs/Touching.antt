@@ -1,29 +1,28 @@
 -- Nodes that a pass may read, as it goes on, and a node that it puts into its row, with a box that encloses a value too.
-use Rattle.std.proofs.Common.{◌≡◌, ◌≢◌, ℕ, zero, suc, ◌+◌, ◌*◌, ◌<◌, ◌≤◌, ◌⊎◌, inl, inr, ⊎_elim, true, IsTrue, ℤ, Some, List, [], ◌∷◌, ◌++◌, length, map, get_or, refl, sym, ap, subst, ◌∙◌, arith, append-nil, length-append}
+use Rattle.std.proofs.Common.{◌≡◌, ◌≢◌, ℕ, zero, suc, ◌+◌, ◌<◌, ◌≤◌, ◌⊎◌, inl, inr, ⊎_elim, ℤ, List, [], ◌∷◌, ◌++◌, length, get_or, refl, sym, ap, subst, ◌∙◌, arith}
 use Rattle.std.proofs.lemmas.Bool.{and_parts, cases_eq}
 use Rattle.std.proofs.lemmas.List.{length-map}
 use Rattle.era_core.specs.declared.sizes.TheConstants.{KINDS}
 use Rattle.era_core.specs.Lists.{times, In}
-use Rattle.era_core.specs.Versions.{Cell, look_up}
-use Rattle.era_core.proofs.ListFacts.{times-append, times-head, times-tail, in_head, in_tail, in-append_left}
+use Rattle.era_core.proofs.ListFacts.{times-head, times-tail, in_tail, in-append_left}
 use Rattle.era_rows.specs.Known.{Known, known_words}
 use Rattle.era_rows.specs.Passes.{known_of, IsReadable}
 use Rattle.era_rows.specs.declared.pass.Pass.{Pass}
 use Rattle.era_rows.specs.declared.rows.Rows.{Rows}
 use Rattle.era_rows.specs.declared.law.Law.{Ghosts}
 use Rattle.pls_archive.specs.declared.call.Entry.{Entry}
-use Rattle.pls_vectors.specs.Box.{Box, box_of, grown, encloses}
+use Rattle.pls_vectors.specs.Box.{Box, box_of, grown}
 use Rattle.pls_vectors.specs.Dominance.{weakly_dominates}
 use Rattle.pls_vectors.proofs.Boxes.{grown-new, weakly_dominates-length}
 use Rattle.pls_vectors.proofs.Dominance.{weakly_dominates-refl, weakly_dominates-trans}
-use Rattle.nd_rows.specs.declared.layout.TheConstants.{LEAF, INNER, FIRST_LINK, IDEAL, NADIR}
+use Rattle.nd_rows.specs.declared.layout.TheConstants.{LEAF, INNER}
 use Rattle.nd_rows.specs.Nodes.{Placed, Nodes, no_nodes, leaf, inner, heads, rows_of, rows_with}
-use Rattle.nd_rows.specs.Layout.{HasWords, IsLinkRow, IsBoxRow, IsPointRow, AreWritten}
-use Rattle.nd_update.specs.Building.{Outside, Does}
+use Rattle.nd_rows.specs.Layout.{IsLinkRow, IsBoxRow}
+use Rattle.nd_update.specs.Building.{Does}
 use Rattle.nd_update.specs.Insertion.{leaf_box}
 use Rattle.nd_update.specs.Ways.{IsBox, HaveSome, AreFit, HasNodes, HasNode, touched, touched_box, link_count, at_node}
 use Rattle.nd_update.proofs.Alike.{Agree, written-alike, points-alike}
-use Rattle.nd_update.proofs.Building.{still_readable, words_outside}
+use Rattle.nd_update.proofs.Building.{still_readable}
 use Rattle.nd_update.proofs.Filling.{still_words}
 
 -- ---- boxes

@@ -1,5 +1,5 @@
 -- A tree in which no point covers a value, by the answer to the question.
-use Rattle.std.proofs.Common.{◌≡◌, ℕ, Bool, true, false, Some, List, refl, sym, ap, subst, ◌∙◌, take, ℤ}
+use Rattle.std.proofs.Common.{◌≡◌, ℕ, Bool, true, false, Some, List, refl, sym, ap, ◌∙◌, take, ℤ}
 use Rattle.std.proofs.lemmas.Option.{same_Some}
 use Rattle.era_rows.specs.Passes.{known_of, seen_of}
 use Rattle.era_rows.specs.declared.pass.Pass.{Pass}
@@ -7,7 +7,6 @@ use Rattle.era_rows.specs.declared.rows.Rows.{Rows}
 use Rattle.era_rows.specs.declared.law.Law.{Ghosts}
 use Rattle.pls_archive.specs.declared.call.Entry.{Entry}
 use Rattle.pls_archive.specs.declared.call.Call.TheVariants.{Covered}
-use Rattle.pls_archive.specs.declared.call.Reply.{Reply}
 use Rattle.pls_archive.specs.declared.call.Reply.TheVariants.{Yes, No}
 use Rattle.pls_archive.specs.declared.point.Point.{Point}
 use Rattle.pls_archive.specs.Archives.{yes_or_no}

@@ -88,17 +88,21 @@ filter-alike : {A : Type 0} (f g : A → Bool) (xs : List A) → Every (λ x. f 
 filter-alike f g [] each = refl
 filter-alike f g (x ∷ xs) each = ap₂ (λ s ys. if s then x ∷ ys else ys) each.0 (filter-alike f g xs each.1)
 
-uncovered-each : (points : List Point) (v : List ℤ) → some_weakly_dominates points v ≡ false → Every (λ (q : Point). weakly_dominates q.value v ≡ false) points
+pub uncovered-each : (points : List Point) (v : List ℤ) → some_weakly_dominates points v ≡ false → Every (λ (q : Point). weakly_dominates q.value v ≡ false) points
 uncovered-each points v none = Every-map (λ (q : Point). not (weakly_dominates q.value v) ≡ true) (λ (q : Point). weakly_dominates q.value v ≡ false) (λ q is. off _ is) points (none-each (λ (q : Point). weakly_dominates q.value v) points none)
 
 -- a question about the value needs the rows that are cut
 module _ (objectives : ℕ) (v : List ℤ) where
+  -- where no enclosed point covers the value, the nadir does not
+  pub uncovered_nadir : (b : Box) (points : List Point) → 0 < length points → Encloses b points → Every (λ (q : Point). weakly_dominates q.value v ≡ false) points → weakly_dominates b.nadir v ≡ false
+  uncovered_nadir b [] some box none = absurd (omega arith)
+  uncovered_nadir b (q ∷ points) some box none =
+      false_from_ne_true _ (λ h. true≢false (sym (weakly_dominates-trans q.value b.nadir v (and_parts (weakly_dominates b.ideal q.value) _ box.all.0).1 h) ∙ none.0))
+
   mixed_cut : (b : Box) (points : List Point) → 0 < length points → Encloses b points → Every (λ (q : Point). weakly_dominates q.value v ≡ false) points → is_cut b v ≡ true → is_mixed b v ≡ true
-  mixed_cut b [] some box none cut = absurd (omega arith)
-  mixed_cut b (q ∷ points) some box none cut =
+  mixed_cut b points some box none cut =
       let parts = and_parts (weakly_dominates v b.nadir) _ cut in
-      let above : weakly_dominates b.nadir v ≡ false = false_from_ne_true _ (λ h. true≢false (sym (weakly_dominates-trans q.value b.nadir v (and_parts (weakly_dominates b.ideal q.value) _ box.all.0).1 h) ∙ none.0)) in
-      decided (weakly_dominates b.nadir v) (weakly_dominates v b.ideal) (weakly_dominates b.ideal v) (weakly_dominates v b.nadir) above (off _ parts.1) parts.0
+      decided (weakly_dominates b.nadir v) (weakly_dominates v b.ideal) (weakly_dominates b.ideal v) (weakly_dominates v b.nadir) (uncovered_nadir b points some box none) (off _ parts.1) parts.0
     where
       decided : (n i a o : Bool) → n ≡ false → i ≡ false → o ≡ true → undecided (if n then AllCover else if i then CoversAll else if not a && not o then Apart else Mixed) ≡ true
       decided true i a o p q r = absurd (true≢false p)

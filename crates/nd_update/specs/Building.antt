@@ -39,7 +39,6 @@ module _ {L : Type 0} {G : Ghosts L Entry} where
     pub same_number : q.number ≡ p.number
     pub same_seen : seen_of q ≡ seen_of p
     pub same_lists : lists_of q ≡ lists_of p
-    pub same_memory : memory_of q ≡ memory_of p
     pub builds : Builds (known_of p) (known_of q)
 
   -- it found no row free after few takes, and keeps an evidence of that

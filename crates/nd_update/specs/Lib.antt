@@ -3,6 +3,7 @@ pub mod Insertion
 pub mod Naming
 pub mod Updates
 pub mod Counted
+pub mod Needed
 pub mod Building
 pub mod Left
 pub mod FilledLeaves

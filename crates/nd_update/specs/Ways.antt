@@ -6,7 +6,7 @@ use Rattle.era_rows.specs.Passes.{IsReadable}
 use Rattle.pls_vectors.specs.Box.{Box, grown}
 use Rattle.pls_vectors.specs.Dominance.{weakly_dominates}
 use Rattle.nd_rows.specs.declared.layout.TheConstants.{INNER}
-use Rattle.nd_rows.specs.Nodes.{Placed, Nodes, no_nodes, leaf, inner, heads, rows_of}
+use Rattle.nd_rows.specs.Nodes.{Nodes, no_nodes, leaf, inner, heads, rows_of}
 use Rattle.nd_rows.specs.Layout.{IsLinkRow, IsBoxRow, AreWritten}
 use Rattle.nd_update.specs.Insertion.{leaf_box, place_among}
 

@@ -1,15 +1,19 @@
 //! The update of a pinned tree by a point.
-ghost use Rattle.std.specs.Prelude.{◌≡◌, ◌≢◌, ℕ, false, None, Err, [], IfOk, IfErr, IfSome, length, take};
+ghost use Rattle.std.specs.Prelude.{◌≡◌, ◌≢◌, ℕ, false, None, Err, [], IfOk, IfErr, IfSome, ◌++◌, length, take};
+ghost use Rattle.era_rows.specs.Known.{pinned_copy};
 ghost use Rattle.era_rows.specs.Passes.{known_of, seen_of, marked_of, work_of, IsPassOf};
 ghost use Rattle.pls_archive.specs.Archives.{yes_or_no};
 ghost use Rattle.pls_archive.specs.History.{submissions};
 ghost use Rattle.pls_archive.specs.Reply.{nondominated, some_weakly_dominates};
 ghost use Rattle.pls_archive.specs.declared.call.Call.TheVariants.{Covered};
-ghost use Rattle.nd_rows.specs.Nodes.{points_of};
+ghost use Rattle.nd_rows.specs.Layout.{IsTreeOf};
+ghost use Rattle.nd_rows.specs.Nodes.{Nodes, points_of};
 ghost use Rattle.nd_rows.specs.Reads.{HasPinnedTree};
 ghost use Rattle.nd_update.specs.Building.{Goes, Lacks};
 ghost use Rattle.nd_update.specs.Built.{IsPublishable, says_covered};
 ghost use Rattle.nd_update.specs.Counted.{IsCounted, IsWithin, IsCrowded, IsShort};
+ghost use Rattle.nd_update.specs.Needed.{ReadsOnly, opened, on_way, needed};
+ghost use Rattle.nd_update.specs.Removal.{without_dominated};
 ghost use Rattle.nd_update.specs.declared.builds.BuildRefusal.TheVariants.{Full};
 
 use crate::inserts::insert;
@@ -49,6 +53,8 @@ fn write_tree(rows: &Rows<NdLaw>, pass: &mut Pass<NdLaw>, root: u32, point: &Poi
     ensures lacks { result ≡ None → Lacks rows.now pass.old pass.new }
     ensures full { result ≢ None → (known_of pass.new).full ≡ (known_of pass.old).full }
     ensures built { IfSome result (λ b. (n : ℕ) (tree : HasPinnedTree rows.now n pass.old) → some_weakly_dominates (points_of tree.stands.0) point.now.value ≡ false → IsPublishable n point.now b pass.new) }
+    ensures only { (t : Nodes) → IsTreeOf rows.now.shape (pinned_copy (known_of pass.old)) t → some_weakly_dominates (points_of t) point.now.value ≡ false
+        → ReadsOnly (opened point.now.value t ++ on_way point.now.value (without_dominated rows.now.rows point.now.value t) 0) (known_of pass.old) (known_of pass.new) }
 {
     let _ = point.value.len();
     let left = remove(rows, pass, root, &point.value)?;
@@ -69,13 +75,15 @@ fn give_up(rows: &Rows<NdLaw>, pass: &mut Pass<NdLaw>)
     ensures fresh { (known_of pass.new).core.fresh ≡ [] }
     ensures marks { marked_of pass.new ≡ [] }
     ensures work { work_of pass.new ≡ work_of pass.old }
+    ensures only { ReadsOnly [] (known_of pass.old) (known_of pass.new) }
 {
     give_all_back(rows, pass);
     rows.unmark(pass);
 }
 
 /// Builds the pinned tree with one point more in fresh rows: points that the new one weakly dominates go, and nodes without points.
-/// The rows of the pinned tree that the new one has no more are marked, so that the tree can be published.
+/// The rows of the pinned tree that the new one has no more are marked, so that the tree can be published. Of the pinned tree it
+/// reads the rows that the update needs, and no others.
 ///
 /// # Errors
 ///
@@ -102,6 +110,7 @@ pub fn build(
     ensures built { IfOk result (λ b. (n : ℕ) → HasPinnedTree rows.now n pass.old → IsPublishable n point b pass.new) }
     ensures refused { IfErr result (λ _. ((known_of pass.new).core.fresh ≡ []) × (marked_of pass.new ≡ [])) }
     ensures covered { (n : ℕ) → HasPinnedTree rows.now n pass.old → yes_or_no (says_covered result) ≡ nondominated (submissions (take n (seen_of pass.old))) (Covered point.value) }
+    ensures only { (t : Nodes) → IsTreeOf rows.now.shape (pinned_copy (known_of pass.old)) t → ReadsOnly (needed point.value rows.now.rows t) (known_of pass.old) (known_of pass.new) }
 {
     let point = &point;
     if covered(rows, pass, &point.value) {

@@ -13,6 +13,8 @@ ghost use Rattle.nd_update.specs.Ways.{HasNode, IsOwned, IsStepped, link_count, 
 ghost use Rattle.nd_update.specs.Building.{Does, IsBuilding, Lacks};
 ghost use Rattle.nd_update.specs.Counted.{IsPaid, WasRead};
 ghost use Rattle.nd_update.specs.Left.{IsLeft};
+ghost use Rattle.nd_update.specs.Needed.{ReadsOnly, on_way};
+ghost use Rattle.nd_update.specs.Removal.{without_dominated};
 ghost use Rattle.nd_update.specs.Inserted.{IsInserted};
 ghost use Rattle.nd_update.specs.Updates.{MayUpdate};
 
@@ -43,6 +45,7 @@ fn grown_box(
     ensures does { Does rows.now [] [] [] pass.old pass.new }
     ensures work { work_of pass.new ≡ work_of pass.old }
     ensures grown { (ms : Nodes) → HasNode rows.now.shape (known_of pass.old) row ms → link_count ms ≡ count → result ≡ touched_box value.now ms }
+    ensures only { ReadsOnly (row ∷ []) (known_of pass.old) (known_of pass.new) }
 {
     if count == 0 {
         return Range::of(*value);
@@ -66,6 +69,7 @@ fn copy_node(rows: &Rows<NdLaw>, pass: &mut Pass<NdLaw>, row: u32, first: u64) -
     ensures paid { IfSome result (λ _. IsPaid 0 (known_of pass.new) (marked_of pass.new)) }
     ensures links { IfSome result (λ own. (kind : ℕ) (links : List ℕ) → IsLinkRow (known_words (known_of pass.old)) kind row links → first ≡ KINDS * length links + kind → kind < KINDS → length links ≤ 20
         → IsLinkRow (known_words (known_of pass.new)) kind own links) }
+    ensures only { ReadsOnly (row ∷ []) (known_of pass.old) (known_of pass.new) }
 {
     let own = take_row(rows, pass)?;
     write_word(rows, pass, own, 0, first);
@@ -88,6 +92,7 @@ fn own_row(rows: &Rows<NdLaw>, pass: &mut Pass<NdLaw>, row: u32, first: u64) -> 
     ensures paid { IfSome result (λ _. IsPaid 0 (known_of pass.new) (marked_of pass.new)) }
     ensures links { IfSome result (λ own. (kind : ℕ) (links : List ℕ) → IsLinkRow (known_words (known_of pass.old)) kind row links → first ≡ KINDS * length links + kind → kind < KINDS → length links ≤ 20
         → IsLinkRow (known_words (known_of pass.new)) kind own links) }
+    ensures only { ReadsOnly (row ∷ []) (known_of pass.old) (known_of pass.new) }
 {
     if rows.is_fresh(pass, row) {
         return Some(row);
@@ -109,6 +114,7 @@ fn own_node(rows: &Rows<NdLaw>, pass: &mut Pass<NdLaw>, row: u32, value: &Vector
     ensures paid { IfSome result (λ _. IsPaid 0 (known_of pass.new) (marked_of pass.new)) }
     ensures node { IfSome result (λ own. (ms : Nodes) → HasNode rows.now.shape (known_of pass.old) row ms → HasNode rows.now.shape (known_of pass.new) own (touched own value.now ms)) }
     ensures boxed { IfSome result (λ own. (ms : Nodes) → HasNode rows.now.shape (known_of pass.old) row ms → IsBoxRow rows.now.shape (known_words (known_of pass.new)) own (touched_box value.now ms)) }
+    ensures only { ReadsOnly (row ∷ []) (known_of pass.old) (known_of pass.new) }
 {
     let first = read_word(rows, pass, row, 0);
     let range = grown_box(rows, pass, row, first / KINDS, value);
@@ -132,6 +138,7 @@ fn closest_child(
     ensures work { work_of pass.new ≡ work_of pass.old }
     ensures bound { result < count }
     ensures place { (b : Box) (kids : Nodes) → HasNode rows.now.shape (known_of pass.old) row (inner row b kids no_nodes) → length (heads kids) ≡ count → result ≡ place_among value.now kids }
+    ensures only { (b : Box) (kids : Nodes) → HasNode rows.now.shape (known_of pass.old) row (inner row b kids no_nodes) → length (heads kids) ≡ count → ReadsOnly (row ∷ heads kids) (known_of pass.old) (known_of pass.new) }
 {
     let mut boxes = [Range::of(*value); MOST_CHILDREN];
     for k in 0..count {
@@ -161,6 +168,7 @@ fn step_down(
         → IsOwned (known_of pass.old) (child_row value.now kids) own taken marked × IsStepped rows.now.shape (known_of pass.new) row b kids value.now own)) }
     ensures work { work_of pass.new ≡ work_of pass.old }
     ensures paid { IfSome result (λ _. IsPaid 0 (known_of pass.new) (marked_of pass.new)) }
+    ensures only { (b : Box) (kids : Nodes) → HasNode rows.now.shape (known_of pass.old) row (inner row b kids no_nodes) → length (heads kids) ≡ count → ReadsOnly (row ∷ heads kids) (known_of pass.old) (known_of pass.new) }
 {
     let place = FIRST_LINK + closest_child(rows, pass, row, count, value);
     let child = read_word(rows, pass, row, place) as u32;
@@ -181,6 +189,9 @@ fn insert_below(rows: &Rows<NdLaw>, pass: &mut Pass<NdLaw>, root: u32, point: &P
     ensures inserted { IfSome result (λ new_root. (t : Nodes) → MayUpdate rows.now.shape rows.now.rows point.now (pinned_copy (known_of pass.old)) t
         → (removed : ℕ) → IsLeft rows.now.rows point.now.value rows.now.shape t (known_words (known_of pass.old)) (known_of pass.old).core.fresh (marked_of pass.old) (Some root) removed
         → IsInserted rows.now.rows rows.now.shape point.now t (known_words (known_of pass.new)) (known_of pass.new).core.fresh (marked_of pass.new) new_root) }
+    ensures only { (t : Nodes) → MayUpdate rows.now.shape rows.now.rows point.now (pinned_copy (known_of pass.old)) t
+        → (removed : ℕ) → IsLeft rows.now.rows point.now.value rows.now.shape t (known_words (known_of pass.old)) (known_of pass.old).core.fresh (marked_of pass.old) (Some root) removed
+        → ReadsOnly (on_way point.now.value (without_dominated rows.now.rows point.now.value t) 0) (known_of pass.old) (known_of pass.new) }
 {
     let own = own_node(rows, pass, root, &point.value)?;
     let mut row = own;
@@ -214,6 +225,9 @@ pub(crate) fn insert(
     ensures inserted { IfSome result (λ new_root. (t : Nodes) → MayUpdate rows.now.shape rows.now.rows point.now (pinned_copy (known_of pass.old)) t
         → (removed : ℕ) → IsLeft rows.now.rows point.now.value rows.now.shape t (known_words (known_of pass.old)) (known_of pass.old).core.fresh (marked_of pass.old) root removed
         → IsInserted rows.now.rows rows.now.shape point.now t (known_words (known_of pass.new)) (known_of pass.new).core.fresh (marked_of pass.new) new_root) }
+    ensures only { (t : Nodes) → MayUpdate rows.now.shape rows.now.rows point.now (pinned_copy (known_of pass.old)) t
+        → (removed : ℕ) → IsLeft rows.now.rows point.now.value rows.now.shape t (known_words (known_of pass.old)) (known_of pass.old).core.fresh (marked_of pass.old) root removed
+        → ReadsOnly (on_way point.now.value (without_dominated rows.now.rows point.now.value t) 0) (known_of pass.old) (known_of pass.new) }
 {
     match root {
         None => insert_alone(rows, pass, point),

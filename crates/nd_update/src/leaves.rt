@@ -6,12 +6,13 @@ ghost use Rattle.era_rows.specs.Known.{known_words};
 ghost use Rattle.nd_rows.specs.declared.layout.TheConstants.{IDEAL, LEAF};
 ghost use Rattle.era_rows.specs.Passes.{known_of, marked_of, work_of};
 ghost use Rattle.pls_vectors.specs.Box.{box_of};
-ghost use Rattle.nd_rows.specs.Nodes.{Placed};
+ghost use Rattle.nd_rows.specs.Nodes.{Placed, rows_with};
 ghost use Rattle.nd_rows.specs.Layout.{IsBoxRow, IsLinkRow, IsPointRow};
 ghost use Rattle.nd_update.specs.Building.{Does, IsBuilding, Lacks};
 ghost use Rattle.nd_update.specs.Counted.{IsPaid};
 ghost use Rattle.nd_update.specs.Insertion.{at_places};
 ghost use Rattle.nd_update.specs.Naming.{IsLeafRow};
+ghost use Rattle.nd_update.specs.Needed.{ReadsOnly};
 ghost use Rattle.nd_update.specs.FilledLeaves.{HasLinked, AreDivided, IsPut, values_box};
 
 use crate::takes::take_row;
@@ -36,6 +37,7 @@ pub(crate) fn insert_alone(rows: &Rows<NdLaw>, pass: &mut Pass<NdLaw>, point: &P
     ensures inserted { MatchOption result (Lacks rows.now pass.old pass.new) (λ leaf. (at : ℕ) × Does rows.now (at ∷ leaf ∷ []) [] (at ∷ leaf ∷ []) pass.old pass.new
         × IsPointRow rows.now.shape (known_words (known_of pass.new)) (record { row = at; point = point.now })
         × IsLeafRow rows.now.shape (known_words (known_of pass.new)) leaf (box_of point.now.value) (record { row = at; point = point.now } ∷ [])) }
+    ensures only { ReadsOnly [] (known_of pass.old) (known_of pass.new) }
 {
     let at = take_row(rows, pass)?;
     write_point(rows, pass, at, point);
@@ -64,6 +66,7 @@ fn write_group(
     ensures work { work_of pass.new ≡ work_of pass.old }
     ensures links { IfSome result (λ leaf. IsLinkRow (known_words (known_of pass.new)) LEAF leaf (at_places links.now group.now)) }
     ensures boxed { IfSome result (λ leaf. IsBoxRow rows.now.shape (known_words (known_of pass.new)) leaf (values_box (at_places values.now group.now))) }
+    ensures only { ReadsOnly [] (known_of pass.old) (known_of pass.new) }
 {
     let leaf = take_row(rows, pass)?;
     let mut range = Range::of(values[group[0] as usize]);
@@ -108,6 +111,7 @@ fn divide(
     ensures divided { MatchOption result (Lacks rows.now pass.old pass.new) (λ _. (leaves : List ℕ) × Does rows.now leaves [] (row ∷ leaves) pass.old pass.new
         × ((placed : List Placed) → HasLinked rows.now.shape (known_of pass.old) row placed → length placed ≡ 20 → (q : Placed) → q.row ≡ at → q.point.value ≡ value.now
         → AreDivided rows.now.shape (known_words (known_of pass.new)) row (placed ++ q ∷ []) leaves)) }
+    ensures only { (placed : List Placed) → HasLinked rows.now.shape (known_of pass.old) row placed → length placed ≡ 20 → ReadsOnly (row ∷ rows_with placed) (known_of pass.old) (known_of pass.new) }
 {
     let mut links = [at; FULL];
     let mut values = [*value; FULL];
@@ -145,6 +149,7 @@ pub(crate) fn insert_in_leaf(
     ensures put { MatchOption result (Lacks rows.now pass.old pass.new) (λ _. (at : ℕ) × (leaves : List ℕ) × Does rows.now (at ∷ leaves) [] (row ∷ at ∷ leaves) pass.old pass.new
         × ((placed : List Placed) → HasLinked rows.now.shape (known_of pass.old) row placed → length placed ≡ count
         → IsPut rows.now.shape (known_words (known_of pass.new)) row placed point.now at leaves)) }
+    ensures only { (placed : List Placed) → HasLinked rows.now.shape (known_of pass.old) row placed → length placed ≡ count → ReadsOnly (row ∷ rows_with placed) (known_of pass.old) (known_of pass.new) }
 {
     let at = take_row(rows, pass)?;
     write_point(rows, pass, at, point);

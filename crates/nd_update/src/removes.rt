@@ -1,5 +1,5 @@
 //! Taking the points that a value weakly dominates out of the pinned tree.
-ghost use Rattle.std.specs.Prelude.{◌≡◌, ℕ, ℤ, ◌+◌, ◌*◌, ◌%◌, ◌<◌, ◌≤◌, nat_lt, true, List, Some, None, [], ◌∷◌, ◌++◌, IfSome, length, drop, if◌then◌else◌};
+ghost use Rattle.std.specs.Prelude.{◌≡◌, ℕ, ℤ, ◌+◌, ◌*◌, ◌%◌, ◌<◌, ◌≤◌, nat_lt, true, List, Some, None, [], ◌∷◌, ◌++◌, IfSome, length, take, drop, if◌then◌else◌};
 ghost use Rattle.era_core.specs.declared.sizes.TheConstants.{ROOT_ROWS};
 ghost use Rattle.era_core.specs.Lists.{times, In};
 ghost use Rattle.era_core.specs.Versions.{look_up};
@@ -16,6 +16,7 @@ ghost use Rattle.nd_update.specs.Building.{Does, Lacks, IsBuilding};
 ghost use Rattle.nd_update.specs.Counted.{IsPaid, WasRead};
 ghost use Rattle.nd_update.specs.Left.{IsLeft, entry, next, AreAllListed, hits, gone_word, is_touched, alive, hits_of, hits_in, IsHitLeaf, IsBoxed, IsNodeLeft, AreKidsLeft};
 ghost use Rattle.nd_update.specs.Naming.{names_of, IsLeafRow, IsInnerRow};
+ghost use Rattle.nd_update.specs.Needed.{ReadsOnly, opened};
 ghost use Rattle.nd_update.specs.Removal.{staying, going, without_dominated, dropped};
 ghost use Rattle.nd_update.specs.Sweeps.{Lists, Settles, Sweeps};
 ghost use mathlib.Core.Option.{some};
@@ -67,6 +68,7 @@ fn list_links(rows: &Rows<NdLaw>, pass: &mut Pass<NdLaw>, row: u32, count: u32)
     requires room { length (work_of pass.old) + count ≤ 2 * rows.now.rows }
     ensures does { Does rows.now [] [] [] pass.old pass.new }
     ensures work { (links : List ℕ) → HasWords (pinned_copy (known_of pass.old)).cells row FIRST_LINK links → length links ≡ count → work_of pass.new ≡ work_of pass.old ++ links }
+    ensures only { ReadsOnly (row ∷ []) (known_of pass.old) (known_of pass.new) }
 {
     for k in 0..count {
         let link = word(rows, pass, row, FIRST_LINK + k);
@@ -82,6 +84,8 @@ fn list_node(rows: &Rows<NdLaw>, pass: &mut Pass<NdLaw>, k: usize, value: &Vecto
     ensures does { Does rows.now [] [] [] pass.old pass.new }
     ensures listed { (ns : Nodes) (others : List ℕ) → Lists rows.now ns others pass.old → length others ≡ k → 0 < length (heads ns)
         → work_of pass.new ≡ (others ++ entry value.now ns ∷ []) ++ heads (next value.now ns) }
+    ensures only { (ns : Nodes) (others : List ℕ) → Lists rows.now ns others pass.old → length others ≡ k → 0 < length (heads ns)
+        → ReadsOnly (take 1 (heads ns)) (known_of pass.old) (known_of pass.new) }
 {
     let row = pass.work(k) as u32;
     let first = word(rows, pass, row, 0);
@@ -108,6 +112,7 @@ fn list_nodes(rows: &Rows<NdLaw>, pass: &mut Pass<NdLaw>, value: &Vector)
     requires tree { (t : Nodes) × Lists rows.now t [] pass.old }
     ensures does { Does rows.now [] [] [] pass.old pass.new }
     ensures listed { (t : Nodes) → Lists rows.now t [] pass.old → (n : ℕ) × AreAllListed value.now t n (work_of pass.new) }
+    ensures only { (t : Nodes) → Lists rows.now t [] pass.old → ReadsOnly (opened value.now t) (known_of pass.old) (known_of pass.new) }
 {
     for k in 0..MOST_ROWS as usize {
         if k == pass.work_len() {
@@ -133,6 +138,7 @@ fn dominated(
     ensures does { Does rows.now [] [] [] pass.old pass.new }
     ensures work { work_of pass.new ≡ work_of pass.old }
     ensures hits { (placed : List Placed) → HasPlaced rows.now.shape (pinned_copy (known_of pass.old)) row placed → length placed ≡ count → result ≡ hits_of value.now placed }
+    ensures only { (placed : List Placed) → HasPlaced rows.now.shape (pinned_copy (known_of pass.old)) row placed → length placed ≡ count → ReadsOnly (row ∷ rows_with placed) (known_of pass.old) (known_of pass.new) }
 {
     let mut hits = [false; MOST_POINTS];
     for k in 0..count {
@@ -181,6 +187,7 @@ fn copy_link(
     ensures links { (x : ℕ) (links : List ℕ) → look_up (pinned_copy (known_of pass.old)).cells row (FIRST_LINK + k) ≡ Some x → HasWords (known_words (known_of pass.old)) own FIRST_LINK links → length links ≡ place
         → HasWords (known_words (known_of pass.new)) own FIRST_LINK (if hit then links else links ++ x ∷ []) }
     ensures place { result ≡ (if hit then place else place + 1) }
+    ensures only { ReadsOnly (row ∷ []) (known_of pass.old) (known_of pass.new) }
 {
     if hit {
         return place;
@@ -207,6 +214,7 @@ fn copy_leaf(
     ensures work { work_of pass.new ≡ work_of pass.old }
     ensures leaf { (v : List ℤ) (b : Box) (placed : List Placed) → IsHitLeaf rows.now.shape (pinned_copy (known_of pass.old)) row count hits.now v b placed
         → IsLeafRow rows.now.shape (known_words (known_of pass.new)) own b (staying v placed) }
+    ensures only { ReadsOnly (row ∷ []) (known_of pass.old) (known_of pass.new) }
 {
     let mut place = 0;
     for k in 0..count {
@@ -225,6 +233,7 @@ fn mark_link(rows: &Rows<NdLaw>, pass: &mut Pass<NdLaw>, row: u32, k: u32, hit: 
     requires link { (x : ℕ) × (look_up (pinned_copy (known_of pass.old)).cells row (FIRST_LINK + k) ≡ Some x) × In x (pinned_copy (known_of pass.old)).rows × (times x (marked_of pass.old) ≡ 0) }
     ensures does { (x : ℕ) → look_up (pinned_copy (known_of pass.old)).cells row (FIRST_LINK + k) ≡ Some x → Does rows.now [] (if hit then x ∷ [] else []) [] pass.old pass.new }
     ensures work { work_of pass.new ≡ work_of pass.old }
+    ensures only { ReadsOnly (row ∷ []) (known_of pass.old) (known_of pass.new) }
 {
     if !hit {
         return;
@@ -248,6 +257,7 @@ fn mark_leaf(
     ensures does { (v : List ℤ) (b : Box) (placed : List Placed) → IsHitLeaf rows.now.shape (pinned_copy (known_of pass.old)) row count hits.now v b placed
         → Does rows.now [] (row ∷ rows_with (going v placed)) [] pass.old pass.new }
     ensures work { work_of pass.new ≡ work_of pass.old }
+    ensures only { ReadsOnly (row ∷ []) (known_of pass.old) (known_of pass.new) }
 {
     rows.mark(pass, row);
     for k in 0..count {
@@ -276,6 +286,7 @@ fn left_of_leaf(
     ensures left { IfSome result (λ w. (v : List ℤ) (b : Box) (placed : List Placed) → IsHitLeaf rows.now.shape (pinned_copy (known_of pass.old)) row count hits.now v b placed
         → (taken : List ℕ) × Does rows.now taken [] taken pass.old pass.new
         × IsNodeLeft rows.now.rows v rows.now.shape (leaf row b placed no_nodes) (known_words (known_of pass.new)) taken (row ∷ rows_with (going v placed)) hit w) }
+    ensures only { ReadsOnly (row ∷ []) (known_of pass.old) (known_of pass.new) }
 {
     if hit == count {
         return Some(told(GONE, 0));
@@ -305,6 +316,9 @@ fn settle_leaf(
     ensures settled { IfSome result (λ more. (b : Box) (placed : List Placed) (later : Nodes) (others : List ℕ) (removed : ℕ)
         → Settles rows.now value.now (leaf row b placed later) others pass.old removed → length others ≡ k → 0 < length placed
         → Sweeps rows.now value.now (leaf row b placed later) others pass.new (removed + more)) }
+    ensures only { (b : Box) (placed : List Placed) (later : Nodes) (others : List ℕ) (removed : ℕ)
+        → Settles rows.now value.now (leaf row b placed later) others pass.old removed → length others ≡ k → 0 < length placed
+        → ReadsOnly (row ∷ rows_with placed) (known_of pass.old) (known_of pass.new) }
 {
     let count = (read_word(rows, pass, row, 0) / KINDS) as u32;
     let hits = dominated(rows, pass, row, count, value);
@@ -370,6 +384,7 @@ fn copy_child(rows: &Rows<NdLaw>, pass: &mut Pass<NdLaw>, own: u32, place: u32, 
     ensures links { (links : List ℕ) → HasWords (known_words (known_of pass.old)) own FIRST_LINK links → length links ≡ place
         → HasWords (known_words (known_of pass.new)) own FIRST_LINK (links ++ alive (found ∷ [])) }
     ensures place { result ≡ place + length (alive (found ∷ [])) }
+    ensures only { ReadsOnly [] (known_of pass.old) (known_of pass.new) }
 {
     if found >= GONE * ROOT_ROWS {
         return place;
@@ -391,6 +406,7 @@ fn copy_inner(rows: &Rows<NdLaw>, pass: &mut Pass<NdLaw>, row: u32, from: usize,
     ensures read { WasRead row (known_of pass.new) }
     ensures inner { (b : Box) (named : Nodes) → IsBoxed rows.now.shape (pinned_copy (known_of pass.old)) row b → alive (drop from (work_of pass.old)) ≡ heads named
         → IsInnerRow rows.now.shape (known_words (known_of pass.new)) own b named }
+    ensures only { ReadsOnly (row ∷ []) (known_of pass.old) (known_of pass.new) }
 {
     let mut place = 0;
     for k in from..pass.work_len() {
@@ -418,6 +434,7 @@ fn left_of_inner(rows: &Rows<NdLaw>, pass: &mut Pass<NdLaw>, row: u32, from: usi
         → AreKidsLeft rows.now.rows v rows.now.shape (drop from (work_of pass.old)) kids named (known_words (known_of pass.old)) (known_of pass.old).core.fresh
         → (taken : List ℕ) × Does rows.now taken [] taken pass.old pass.new
         × IsNodeLeft rows.now.rows v rows.now.shape (inner row b kids no_nodes) (known_words (known_of pass.new)) (names_of rows.now.rows (without_dominated rows.now.rows v kids) named ++ taken) (row ∷ dropped v kids) (hits v (points_of kids)) w) }
+    ensures only { ReadsOnly (row ∷ []) (known_of pass.old) (known_of pass.new) }
 {
     let count = count_left(pass, from);
     if count == 0 {
@@ -450,6 +467,7 @@ fn settle_inner(
     ensures settled { IfSome result (λ _. (v : List ℤ) (b : Box) (kids later : Nodes) (others : List ℕ) (removed : ℕ)
         → Settles rows.now v (inner row b kids later) others pass.old removed → length others ≡ k → weakly_dominates v b.nadir ≡ true → length (heads kids) ≡ count
         → Sweeps rows.now v (inner row b kids later) others pass.new removed) }
+    ensures only { ReadsOnly (row ∷ []) (known_of pass.old) (known_of pass.new) }
 {
     let from = pass.work_len() - count as usize;
     if !is_changed(pass, from) {
@@ -477,6 +495,8 @@ fn settle(rows: &Rows<NdLaw>, pass: &mut Pass<NdLaw>, k: usize, value: &Vector) 
     ensures settled { IfSome result (λ more. (ns : Nodes) (others : List ℕ) (removed : ℕ)
         → Settles rows.now value.now ns others pass.old removed → length others ≡ k
         → Sweeps rows.now value.now ns others pass.new (removed + more)) }
+    ensures only { (ns : Nodes) (others : List ℕ) (removed : ℕ) → Settles rows.now value.now ns others pass.old removed → length others ≡ k
+        → ReadsOnly (opened value.now ns) (known_of pass.old) (known_of pass.new) }
 {
     let found = pass.work(k);
     let row = (found % ROOT_ROWS) as u32;
@@ -504,6 +524,8 @@ fn settle_all(rows: &Rows<NdLaw>, pass: &mut Pass<NdLaw>, value: &Vector) -> Opt
     ensures paid { IfSome result (λ _. IsPaid 0 (known_of pass.new) (marked_of pass.new)) }
     ensures swept { IfSome result (λ removed. (t : Nodes) (n : ℕ) → IsTreeOf rows.now.shape (pinned_copy (known_of pass.old)) t → AreAllListed value.now t n (work_of pass.old)
         → Sweeps rows.now value.now t [] pass.new removed) }
+    ensures only { (t : Nodes) (n : ℕ) → IsTreeOf rows.now.shape (pinned_copy (known_of pass.old)) t → AreAllListed value.now t n (work_of pass.old)
+        → ReadsOnly (opened value.now t) (known_of pass.old) (known_of pass.new) }
 {
     let len = pass.work_len();
     let mut removed = 0;
@@ -560,6 +582,7 @@ pub(crate) fn remove(
     ensures work { work_of pass.new ≡ [] }
     ensures left { IfSome result (λ l. (t : Nodes) → IsTreeOf rows.now.shape (pinned_copy (known_of pass.old)) t
         → IsLeft rows.now.rows value.now rows.now.shape t (known_words (known_of pass.new)) (known_of pass.new).core.fresh (marked_of pass.new) l.root l.removed) }
+    ensures only { (t : Nodes) → IsTreeOf rows.now.shape (pinned_copy (known_of pass.old)) t → ReadsOnly (opened value.now t) (known_of pass.old) (known_of pass.new) }
 {
     pass.work_push(root as u64);
     list_nodes(rows, pass, value);

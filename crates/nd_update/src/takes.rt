@@ -3,6 +3,7 @@ ghost use Rattle.std.specs.Prelude.{◌≡◌, ℕ, ◌+◌, Some, [], ◌∷◌
 ghost use Rattle.era_rows.specs.Passes.{known_of, marked_of, work_of, IsPassOf, seen_of, lists_of, memory_of};
 ghost use Rattle.nd_update.specs.Building.{Builds, Does, Lacks, IsBuilding};
 ghost use Rattle.nd_update.specs.Counted.{IsPaid};
+ghost use Rattle.nd_update.specs.Needed.{ReadsOnly};
 
 use era_one_row::find_row;
 use era_rows::{Pass, Rows};
@@ -16,6 +17,7 @@ pub(crate) fn take_row(rows: &Rows<NdLaw>, pass: &mut Pass<NdLaw>) -> Option<u32
     requires paid { IsPaid (rows.now.shape + 2) (known_of pass.old) (marked_of pass.old) }
     ensures does { MatchOption result (Lacks rows.now pass.old pass.new) (λ row. Does rows.now (row ∷ []) [] [] pass.old pass.new) }
     ensures work { work_of pass.new ≡ work_of pass.old }
+    ensures only { ReadsOnly [] (known_of pass.old) (known_of pass.new) }
 {
     find_row(rows, pass)
 }

@@ -10,7 +10,7 @@ ghost use Rattle.nd_update.specs.Resting.{IsAtRest, IsOpen};
 use crate::takes::give_all_back;
 use crate::{BuildRefusal, Built, build};
 use era_rows::{Nothing, Pass, Rows};
-use nd_rows::{Adds, NdLaw, covered, gather, member};
+use nd_rows::{Adds, NdLaw, covered, gather, member, recalls};
 use pls_archive::{Plain, Point, PointList, Single, Taken};
 use pls_vectors::{Sol, Vector};
 use std::alloc::{AllocError, Global};
@@ -123,6 +123,13 @@ fn ask(rows: &Rows<NdLaw>, pass: &mut Pass<NdLaw>, value: &Vector) -> (bool, boo
     (is_covered, is_member)
 }
 
+// Whether the pass remembers a value that covers the one of these parts.
+fn recalls_parts(rt: &impl Abort, pass: &Pass<NdLaw>, parts: [i64; 2]) -> bool
+    requires parts { (known_of pass.now).shape ≡ 2 }
+{
+    recalls(pass, &point(rt, parts).value)
+}
+
 // The members.
 fn list(alloc: Global, rows: &Rows<NdLaw>, pass: &mut Pass<NdLaw>) -> Result<PointList, AllocError>
     requires rest { IsAtRest rows.now pass.old }
@@ -163,6 +170,16 @@ fn point_of(rt: &impl Abort, word: u64, objectives: u8, items: u16) -> Point
     Point {
         value: Vector::new(&parts[..objectives as usize]).expect(rt, "parts in range"),
         sol: Sol::bits(items),
+    }
+}
+
+// A point of these parts, with a choice of nothing among eight items.
+fn point(rt: &impl Abort, parts: [i64; 2]) -> Point
+    ensures { length result.value ≡ 2 }
+{
+    Point {
+        value: Vector::new(&parts).expect(rt, "parts in range"),
+        sol: Sol::bits(8),
     }
 }
 
@@ -212,5 +229,35 @@ fn replies_as_the_plain_archive(rt: HostRuntime) -> Result<(), AllocError> {
     for objectives in [2, 3, 4] {
         replies_as_plain(&rt, rt.alloc(), objectives, 1_000)?;
     }
+    Ok(())
+}
+
+// Asks whether the value of these parts is covered, and then whether the pass remembers a value that covers it.
+fn asked_and_recalled(
+    rt: &impl Abort,
+    rows: &Rows<NdLaw>,
+    pass: &mut Pass<NdLaw>,
+    parts: [i64; 2],
+) -> (bool, bool)
+    requires rest { IsAtRest rows.now pass.old }
+    requires shape { rows.now.shape ≡ 2 }
+    ensures rest { IsAtRest rows.now pass.new }
+{
+    let is_covered = ask(rows, pass, &point(rt, parts).value).0;
+    (is_covered, recalls_parts(rt, pass, parts))
+}
+
+#[test]
+fn a_point_that_covers_is_remembered(rt: HostRuntime) -> Result<(), AllocError> {
+    let (rows, mut pass) = start(rt.alloc(), 2, 64)?;
+    add(&rows, &mut pass, &point(&rt, [10, 0]));
+    add(&rows, &mut pass, &point(&rt, [0, 10]));
+    // The box alone tells that this value is covered.
+    let by_box = asked_and_recalled(&rt, &rows, &mut pass, [-1, -1]);
+    assert_eq!(&rt; by_box, (true, false));
+    let by_point = asked_and_recalled(&rt, &rows, &mut pass, [5, 0]);
+    assert_eq!(&rt; by_point, (true, true));
+    let above = asked_and_recalled(&rt, &rows, &mut pass, [11, 0]);
+    assert_eq!(&rt; above, (false, false));
     Ok(())
 }

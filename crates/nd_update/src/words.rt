@@ -11,6 +11,7 @@ ghost use Rattle.nd_rows.specs.declared.layout.TheConstants.{FIRST_LINK, IDEAL, 
 ghost use Rattle.nd_rows.specs.Layout.{HasWords, HasValue, IsBoxRow, IsPointRow};
 ghost use Rattle.nd_update.specs.Building.{Does, IsBuilding, Outside};
 ghost use Rattle.nd_update.specs.Counted.{WasRead};
+ghost use Rattle.nd_update.specs.Needed.{ReadsOnly};
 
 use era_core::KINDS;
 use era_rows::{Pass, Rows};
@@ -29,6 +30,7 @@ pub(crate) fn read_word(rows: &Rows<NdLaw>, pass: &mut Pass<NdLaw>, row: u32, pl
     ensures work { work_of pass.new ≡ work_of pass.old }
     ensures word { (w : ℕ) → look_up (known_words (known_of pass.old)) row place ≡ Some w → result ≡ w }
     ensures read { WasRead row (known_of pass.new) }
+    ensures only { ReadsOnly (row ∷ []) (known_of pass.old) (known_of pass.new) }
 {
     rows.read(pass, row, place)
 }
@@ -43,6 +45,7 @@ pub(crate) fn read_value(rows: &Rows<NdLaw>, pass: &mut Pass<NdLaw>, row: u32, p
     ensures work { work_of pass.new ≡ work_of pass.old }
     ensures value { (v : List ℤ) → HasValue rows.now.shape (known_words (known_of pass.old)) row place v → result ≡ v }
     ensures read { 0 < rows.now.shape → WasRead row (known_of pass.new) }
+    ensures only { ReadsOnly (row ∷ []) (known_of pass.old) (known_of pass.new) }
 {
     let mut parts = [0; 4];
     let len = rows.shape() as usize;
@@ -62,6 +65,7 @@ pub(crate) fn read_box(rows: &Rows<NdLaw>, pass: &mut Pass<NdLaw>, row: u32) -> 
     ensures work { work_of pass.new ≡ work_of pass.old }
     ensures boxed { (b : Box) → IsBoxRow rows.now.shape (known_words (known_of pass.old)) row b → IsTrue (weakly_dominates b.ideal b.nadir) → result ≡ b }
     ensures read { 0 < rows.now.shape → WasRead row (known_of pass.new) }
+    ensures only { ReadsOnly (row ∷ []) (known_of pass.old) (known_of pass.new) }
 {
     let ideal = read_value(rows, pass, row, IDEAL);
     let nadir = read_value(rows, pass, row, NADIR);
@@ -85,6 +89,7 @@ pub(crate) fn write_word(
     ensures work { work_of pass.new ≡ work_of pass.old }
     ensures outside { Outside row place (place + 1) (known_words (known_of pass.old)) (known_words (known_of pass.new)) }
     ensures word { look_up (known_words (known_of pass.new)) row place ≡ Some word }
+    ensures only { ReadsOnly [] (known_of pass.old) (known_of pass.new) }
 {
     rows.write(pass, row, place, word);
 }
@@ -104,6 +109,7 @@ pub(crate) fn write_first(
     ensures work { work_of pass.new ≡ work_of pass.old }
     ensures outside { Outside row 0 1 (known_words (known_of pass.old)) (known_words (known_of pass.new)) }
     ensures word { look_up (known_words (known_of pass.new)) row 0 ≡ Some (KINDS * count + kind) }
+    ensures only { ReadsOnly [] (known_of pass.old) (known_of pass.new) }
 {
     write_word(rows, pass, row, 0, KINDS * u64::from(count) + kind);
 }
@@ -123,6 +129,7 @@ pub(crate) fn write_value(
     ensures work { work_of pass.new ≡ work_of pass.old }
     ensures outside { Outside row place (place + 4) (known_words (known_of pass.old)) (known_words (known_of pass.new)) }
     ensures value { HasValue (length value.now) (known_words (known_of pass.new)) row place value.now }
+    ensures only { ReadsOnly [] (known_of pass.old) (known_of pass.new) }
 {
     for k in 0..value.len() {
         write_word(rows, pass, row, place + k as u32, part_word(value, k));
@@ -138,6 +145,7 @@ pub(crate) fn write_box(rows: &Rows<NdLaw>, pass: &mut Pass<NdLaw>, row: u32, ra
     ensures work { work_of pass.new ≡ work_of pass.old }
     ensures outside { Outside row IDEAL (NADIR + 4) (known_words (known_of pass.old)) (known_words (known_of pass.new)) }
     ensures boxed { IsBoxRow rows.now.shape (known_words (known_of pass.new)) row range.now }
+    ensures only { ReadsOnly [] (known_of pass.old) (known_of pass.new) }
 {
     write_value(rows, pass, row, IDEAL, &range.ideal());
     write_value(rows, pass, row, NADIR, &range.nadir());
@@ -152,6 +160,7 @@ fn write_sol(rows: &Rows<NdLaw>, pass: &mut Pass<NdLaw>, row: u32, sol: &Sol)
     ensures work { work_of pass.new ≡ work_of pass.old }
     ensures outside { Outside row SOL_WORDS PARTS (known_words (known_of pass.old)) (known_words (known_of pass.new)) }
     ensures words { HasWords (known_words (known_of pass.new)) row SOL_WORDS sol.now.words }
+    ensures only { ReadsOnly [] (known_of pass.old) (known_of pass.new) }
 {
     for k in 0..32 {
         write_word(rows, pass, row, SOL_WORDS + k as u32, sol.word(k));
@@ -166,6 +175,7 @@ pub(crate) fn write_point(rows: &Rows<NdLaw>, pass: &mut Pass<NdLaw>, row: u32, 
     ensures does { Does rows.now [] [] (row ∷ []) pass.old pass.new }
     ensures work { work_of pass.new ≡ work_of pass.old }
     ensures point { IsPointRow rows.now.shape (known_words (known_of pass.new)) (record { row = row; point = point.now }) }
+    ensures only { ReadsOnly [] (known_of pass.old) (known_of pass.new) }
 {
     write_first(rows, pass, row, POINT, 0);
     write_value(rows, pass, row, VALUE, &point.value);
@@ -186,6 +196,7 @@ pub(crate) fn copy_links(rows: &Rows<NdLaw>, pass: &mut Pass<NdLaw>, from: u32, 
     ensures work { work_of pass.new ≡ work_of pass.old }
     ensures outside { Outside to FIRST_LINK (FIRST_LINK + count) (known_words (known_of pass.old)) (known_words (known_of pass.new)) }
     ensures links { (links : List ℕ) → HasWords (known_words (known_of pass.old)) from FIRST_LINK links → length links ≡ count → HasWords (known_words (known_of pass.new)) to FIRST_LINK links }
+    ensures only { ReadsOnly (from ∷ []) (known_of pass.old) (known_of pass.new) }
 {
     for k in 0..count {
         let link = read_word(rows, pass, from, FIRST_LINK + k);

@@ -1,10 +1,13 @@
-use Rattle.std.proofs.Common.{refl, ap, sym, subst, ◌∙◌, arith}
-use Rattle.era_core.specs.Versions.{Copy}
+use Rattle.std.proofs.Common.{◌++◌, refl, ◌∙◌, arith}
+use Rattle.era_core.proofs.ListFacts.{in-append_left}
 use Rattle.era_rows.specs.Passes.{known_of}
+use Rattle.nd_update.specs.Needed.{opened, on_way}
+use Rattle.nd_update.specs.Removal.{without_dominated}
 use Rattle.nd_update.proofs.Building.{builds_both, may_build}
 use Rattle.nd_update.proofs.Going.{goes_does, goes_both}
 use Rattle.nd_update.proofs.Lacking.{does_lacks}
-use Rattle.nd_update.proofs.Publishing.{may_update, still_may, publishable}
+use Rattle.nd_update.proofs.Reading.{only_more, only_append}
+use Rattle.nd_update.proofs.Publishing.{may_be, may_on, may_update, still_may, publishable}
 use Rattle.nd_update.proofs.builds.write_tree.Goals as goal
 
 pub remove-requires-clause-building : goal.remove-requires-clause-building
@@ -37,6 +40,12 @@ returns-in_err-left-clause-lacks c =
 pub returns-in_err-left-clause-full : goal.returns-in_err-left-clause-full
 returns-in_err-left-clause-full c =
     λ some. absurd (some c.from_residual.ensures)
+
+pub returns-in_err-left-clause-only : goal.returns-in_err-left-clause-only
+returns-in_err-left-clause-only c t is none =
+    let v = c.args.point.now.value in
+    let way = on_way v (without_dominated c.args.rows.now.rows v t) 0 in
+    only_more (opened v t) (opened v t ++ way) (known_of c.args.pass.now) (known_of c.remove.new.pass) (λ x here. in-append_left x (opened v t) way here) (c.remove.ensures.only t is)
 
 pub insert-requires-clause-building : goal.insert-requires-clause-building
 insert-requires-clause-building c = c.in_ok-left.ensures.does.2.building
@@ -77,6 +86,32 @@ returns-in_err-root-clause-lacks c =
 pub returns-in_err-root-clause-full : goal.returns-in_err-root-clause-full
 returns-in_err-root-clause-full c =
     λ some. absurd (some c.from_residual-in_err-root.ensures)
+
+pub returns-in_err-root-clause-only : goal.returns-in_err-root-clause-only
+returns-in_err-root-clause-only c t is none =
+    let r = c.args.rows.now in
+    let p = c.args.pass.now in
+    let q = c.remove.new.pass in
+    let point = c.args.point.now in
+    let v = point.value in
+    let len = c.len.ensures in
+    let may = may_be r p t point c.requires.tree.1.0.is_pass is c.requires.parts (omega (arith, len.some, len.value, c.requires.parts)) (omega (arith, len.few, len.value, c.requires.parts)) none in
+    let builds = c.in_ok-left.ensures.does.2.builds in
+    only_append (opened v t) (on_way v (without_dominated r.rows v t) 0) (known_of p) (known_of q) (known_of c.insert.new.pass) builds (c.remove.ensures.only t is)
+    (c.insert.ensures.only t (may_on r p t point may q builds) c.in_ok-left.left.removed (c.in_ok-left.ensures.left t is))
+
+pub returns-clause-only : goal.returns-clause-only
+returns-clause-only c t is none =
+    let r = c.args.rows.now in
+    let p = c.args.pass.now in
+    let q = c.remove.new.pass in
+    let point = c.args.point.now in
+    let v = point.value in
+    let len = c.len.ensures in
+    let may = may_be r p t point c.requires.tree.1.0.is_pass is c.requires.parts (omega (arith, len.some, len.value, c.requires.parts)) (omega (arith, len.few, len.value, c.requires.parts)) none in
+    let builds = c.in_ok-left.ensures.does.2.builds in
+    only_append (opened v t) (on_way v (without_dominated r.rows v t) 0) (known_of p) (known_of q) (known_of c.insert.new.pass) builds (c.remove.ensures.only t is)
+    (c.insert.ensures.only t (may_on r p t point may q builds) c.in_ok-left.left.removed (c.in_ok-left.ensures.left t is))
 
 pub returns-clause-goes : goal.returns-clause-goes
 returns-clause-goes c =

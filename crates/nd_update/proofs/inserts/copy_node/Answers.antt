@@ -4,6 +4,7 @@ use Rattle.era_rows.specs.Passes.{known_of, marked_of}
 use Rattle.nd_update.proofs.Building.{now_fresh, still_fresh, mark_does}
 use Rattle.nd_update.proofs.Owning.{match_none, copy_links_still, copied_apart, copied_here, copied_unmarked, copy_does, copy_paid, copy_row}
 use Rattle.nd_update.proofs.Paying.{paid_more}
+use Rattle.nd_update.proofs.Reading.{only_any, only_then, then_only, only_list}
 use Rattle.nd_update.proofs.inserts.copy_node.Goals as goal
 
 pub take_row-requires-clause-paid : goal.take_row-requires-clause-paid
@@ -69,3 +70,16 @@ returns-clause-links c kind links is first low few =
     kind _ links (c.write_word.ensures.word ∙ ap Some first) c.copy_links.ensures.outside
     (c.copy_links.ensures.links links
     (copy_links_still c.args.rows.now c.args.row own c.args.pass.now c.take_row.new.pass c.write_word.new.pass c.in_ok-own.ensures.does c.write_word.ensures.does (inr c.requires.row) links is.linked) count)
+
+pub returns-in_err-own-clause-only : goal.returns-in_err-own-clause-only
+returns-in_err-own-clause-only c = only_any (c.args.row ∷ []) (known_of c.args.pass.now) (known_of c.take_row.new.pass) c.take_row.ensures.only
+
+pub returns-clause-only : goal.returns-clause-only
+returns-clause-only c =
+    let r = c.args.rows.now in
+    let own = c.in_ok-own.own in
+    let row = c.args.row ∷ [] in
+    let end = c.mark.new.pass in
+    then_only r (own ∷ []) [] [] row c.args.pass.now c.take_row.new.pass end c.in_ok-own.ensures.does c.take_row.ensures.only
+    (then_only r [] [] (own ∷ []) row c.take_row.new.pass c.write_word.new.pass end c.write_word.ensures.does c.write_word.ensures.only
+    (only_then r [] [] (own ∷ []) row c.write_word.new.pass c.copy_links.new.pass end c.copy_links.ensures.does c.copy_links.ensures.only (only_list row c.copy_links.new.pass end c.mark.ensures.known)))

@@ -1,12 +1,15 @@
-use Rattle.std.proofs.Common.{◌≡◌, ℕ, IfSome, Some, [], ◌∷◌, sym, subst}
+use Rattle.std.proofs.Common.{ℕ, IfSome, [], ◌∷◌, sym, subst}
 use Rattle.era_rows.specs.Known.{pinned_copy, known_words}
 use Rattle.era_rows.specs.Passes.{known_of, marked_of}
 use Rattle.nd_rows.specs.Nodes.{Nodes}
+use Rattle.nd_update.specs.Needed.{ReadsOnly, on_way}
+use Rattle.nd_update.specs.Removal.{without_dominated}
 use Rattle.nd_update.specs.Updates.{MayUpdate}
 use Rattle.nd_update.specs.Left.{IsLeft}
 use Rattle.nd_update.specs.Inserted.{IsInserted}
 use Rattle.nd_update.proofs.Alone.{inserted_alone}
 use Rattle.nd_update.proofs.Filling.{match_both}
+use Rattle.nd_update.proofs.Reading.{only_any}
 use Rattle.nd_update.proofs.inserts.insert.Goals as goal
 
 pub returns-in-None-clause-does : goal.returns-in-None-clause-does
@@ -28,3 +31,18 @@ returns-in-Some-clause-inserted c =
     subst (λ o. IfSome c.insert_below.result (λ new_root. (t : Nodes) → MayUpdate r.shape r.rows c.args.point.now (pinned_copy (known_of p)) t
     → (removed : ℕ) → IsLeft r.rows c.args.point.now.value r.shape t (known_words (known_of p)) (known_of p).core.fresh (marked_of p) o removed
     → IsInserted r.rows r.shape c.args.point.now t (known_words (known_of q)) (known_of q).core.fresh (marked_of q) new_root)) (sym c.in-Some.is) c.insert_below.ensures.inserted
+
+pub returns-in-None-clause-only : goal.returns-in-None-clause-only
+returns-in-None-clause-only c t may removed is_left =
+    let r = c.args.rows.now in
+    let v = c.args.point.now.value in only_any (on_way v (without_dominated r.rows v t) 0) (known_of c.args.pass.now) (known_of c.insert_alone.new.pass) c.insert_alone.ensures.only
+
+pub returns-in-Some-clause-only : goal.returns-in-Some-clause-only
+returns-in-Some-clause-only c =
+    let r = c.args.rows.now in
+    let v = c.args.point.now.value in
+    let p = c.args.pass.now in
+    let q = c.insert_below.new.pass in
+    subst (λ o. (t : Nodes) → MayUpdate r.shape r.rows c.args.point.now (pinned_copy (known_of p)) t
+    → (removed : ℕ) → IsLeft r.rows v r.shape t (known_words (known_of p)) (known_of p).core.fresh (marked_of p) o removed
+    → ReadsOnly (on_way v (without_dominated r.rows v t) 0) (known_of p) (known_of q)) (sym c.in-Some.is) c.insert_below.ensures.only

@@ -1,7 +1,5 @@
-use Rattle.std.proofs.Common.{◌≡◌, ◌≢◌, ℕ, List, [], ◌∷◌, ◌++◌, ◌%◌, Some, refl, sym, ap, subst, ◌∙◌, arith}
-use Rattle.era_core.specs.Lists.{In}
+use Rattle.std.proofs.Common.{[], ◌∷◌, ◌++◌, sym, subst, ◌∙◌, arith}
 use Rattle.era_core.specs.Versions.{Copy}
-use Rattle.era_rows.specs.Known.{pinned_copy}
 use Rattle.era_rows.specs.Passes.{known_of}
 use Rattle.nd_update.specs.Updates.{MayUpdate}
 use Rattle.nd_update.proofs.Beginning.{left_node, root_unmarked, begins, node_low}
@@ -11,6 +9,8 @@ use Rattle.nd_update.proofs.Lacking.{does_lacks}
 use Rattle.nd_update.proofs.Landed.{landed_at}
 use Rattle.nd_update.proofs.Paying.{paid_still}
 use Rattle.nd_update.proofs.Owning.{match_none}
+use Rattle.nd_update.proofs.OnWay.{way_left, only_leaf, only_inner, only_root}
+use Rattle.nd_update.proofs.Reading.{only_then}
 use Rattle.nd_update.proofs.inserts.insert_below.Goals as goal
 
 pub own_node-requires-clause-node : goal.own_node-requires-clause-node
@@ -36,6 +36,7 @@ loop-stepped-init c =
     let own = c.in_ok-own.own in
     let owned = c.in_ok-own.ensures.owned in record {
       work = c.own_node.ensures.work;
+      only = λ t may removed is_left. only_root r r.shape c.args.point.now t p q c.requires.building removed c.args.root is_left c.own_node.ensures.only;
       paid = c.in_ok-own.ensures.paid;
       mine = owned_fresh r c.args.root own owned.0 owned.1 (own ∷ []) p q owned.2 owned.3;
       does = (owned.0, owned.1, own ∷ [], owned.2);
@@ -129,6 +130,10 @@ loop-stepped-preserved c =
     let did = c.in_ok-row.ensures.does in
     let mine = still_fresh r [] [] [] p q read row c.loop-stepped.invariant.mine in record {
       work = c.step_down.ensures.work ∙ c.read_word-first.ensures.work ∙ c.loop-stepped.invariant.work;
+      only = λ t may removed is_left.
+          only_then r so_far.0 so_far.1 so_far.2 (way_left r.rows c.args.point.now t) c.args.pass.now p s so_far.3 (c.loop-stepped.invariant.only t may removed is_left)
+          (only_inner r r.shape c.args.point.now t p q so_far.3.building read row c.in_ok-own.own c.loop-stepped.stepped c.read_word-first.result c.read_word-first.ensures.word (c.loop-stepped.invariant.at t may removed is_left)
+          c.loop-stepped.invariant.mine c.read_word-first.ensures.only s c.if-first-eq-LEAF.false c.step_down.ensures.only);
       paid = c.in_ok-row.ensures.paid;
       mine =
           stepped_fresh r r.shape c.args.point.now left.0 p q read row c.in_ok-own.own c.loop-stepped.stepped c.read_word-first.result c.read_word-first.ensures.word (c.loop-stepped.invariant.at left.0 left.1 left.2.0 left.2.1) c.if-first-eq-LEAF.false s own did.0 did.1 did.2 did.3;
@@ -154,3 +159,40 @@ returns-then-first-eq-LEAF-clause-inserted c t may removed is_left =
     let put = c.in_ok-insert_in_leaf.ensures.put in
     landed_at r r.shape c.args.point.now t c.loop-stepped.pass c.read_word-first.new.pass c.read_word-first.ensures.does c.loop-stepped.row c.in_ok-own.own c.loop-stepped.stepped c.read_word-first.result c.read_word-first.ensures.word
     (c.loop-stepped.invariant.at t may removed is_left) c.if-first-eq-LEAF.true c.insert_in_leaf.new.pass put.0 put.1 put.2 may.some may.few may.parts put.3 c.in_ok-insert_in_leaf.ensures.kept
+
+pub returns-in_err-own-clause-only : goal.returns-in_err-own-clause-only
+returns-in_err-own-clause-only c t may removed is_left =
+    let r = c.args.rows.now in only_root r r.shape c.args.point.now t c.args.pass.now c.own_node.new.pass c.requires.building removed c.args.root is_left c.own_node.ensures.only
+
+pub returns-in_err-insert_in_leaf-clause-only : goal.returns-in_err-insert_in_leaf-clause-only
+returns-in_err-insert_in_leaf-clause-only c t may removed is_left =
+    let r = c.args.rows.now in
+    let so_far = c.loop-stepped.invariant.does in
+    let p = c.loop-stepped.pass in
+    let q = c.read_word-first.new.pass in
+    let s = c.insert_in_leaf.new.pass in
+    only_then r so_far.0 so_far.1 so_far.2 (way_left r.rows c.args.point.now t) c.args.pass.now p s so_far.3 (c.loop-stepped.invariant.only t may removed is_left)
+    (only_leaf r r.shape c.args.point.now t p q so_far.3.building c.read_word-first.ensures.does c.loop-stepped.row c.in_ok-own.own c.loop-stepped.stepped c.read_word-first.result c.read_word-first.ensures.word
+    (c.loop-stepped.invariant.at t may removed is_left) c.loop-stepped.invariant.mine c.read_word-first.ensures.only s c.if-first-eq-LEAF.true c.insert_in_leaf.ensures.only)
+
+pub returns-then-first-eq-LEAF-clause-only : goal.returns-then-first-eq-LEAF-clause-only
+returns-then-first-eq-LEAF-clause-only c t may removed is_left =
+    let r = c.args.rows.now in
+    let so_far = c.loop-stepped.invariant.does in
+    let p = c.loop-stepped.pass in
+    let q = c.read_word-first.new.pass in
+    let s = c.insert_in_leaf.new.pass in
+    only_then r so_far.0 so_far.1 so_far.2 (way_left r.rows c.args.point.now t) c.args.pass.now p s so_far.3 (c.loop-stepped.invariant.only t may removed is_left)
+    (only_leaf r r.shape c.args.point.now t p q so_far.3.building c.read_word-first.ensures.does c.loop-stepped.row c.in_ok-own.own c.loop-stepped.stepped c.read_word-first.result c.read_word-first.ensures.word
+    (c.loop-stepped.invariant.at t may removed is_left) c.loop-stepped.invariant.mine c.read_word-first.ensures.only s c.if-first-eq-LEAF.true c.insert_in_leaf.ensures.only)
+
+pub returns-in_err-row-clause-only : goal.returns-in_err-row-clause-only
+returns-in_err-row-clause-only c t may removed is_left =
+    let r = c.args.rows.now in
+    let so_far = c.loop-stepped.invariant.does in
+    let p = c.loop-stepped.pass in
+    let q = c.read_word-first.new.pass in
+    let s = c.step_down.new.pass in
+    only_then r so_far.0 so_far.1 so_far.2 (way_left r.rows c.args.point.now t) c.args.pass.now p s so_far.3 (c.loop-stepped.invariant.only t may removed is_left)
+    (only_inner r r.shape c.args.point.now t p q so_far.3.building c.read_word-first.ensures.does c.loop-stepped.row c.in_ok-own.own c.loop-stepped.stepped c.read_word-first.result c.read_word-first.ensures.word
+    (c.loop-stepped.invariant.at t may removed is_left) c.loop-stepped.invariant.mine c.read_word-first.ensures.only s c.if-first-eq-LEAF.false c.step_down.ensures.only)

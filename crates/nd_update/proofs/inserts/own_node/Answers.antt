@@ -1,15 +1,14 @@
-use Rattle.std.proofs.Common.{◌≡◌, ◌*◌, ◌<◌, ◌≤◌, ℕ, List, inl, [], ◌∷◌, length, refl, sym, ap, subst, ◌∙◌, arith}
-use Rattle.era_core.specs.Lists.{times, In}
-use Rattle.era_core.specs.Versions.{Copy}
-use Rattle.era_rows.specs.Known.{known_words, pinned_copy}
-use Rattle.era_rows.specs.Passes.{known_of, marked_of}
+use Rattle.std.proofs.Common.{◌≡◌, [], ◌∷◌, length, refl, sym, subst, ◌∙◌}
+use Rattle.era_rows.specs.Known.{known_words}
+use Rattle.era_rows.specs.Passes.{known_of}
 use Rattle.nd_rows.specs.Layout.{IsBoxRow}
-use Rattle.nd_update.specs.Ways.{IsOwned, touched_box}
-use Rattle.nd_update.proofs.Building.{does_both, read_does, still_fresh}
+use Rattle.nd_update.specs.Ways.{touched_box}
+use Rattle.nd_update.proofs.Building.{does_both, read_does}
 use Rattle.nd_update.proofs.Lacking.{does_lacks}
 use Rattle.nd_update.proofs.Paying.{still_read, paid_still}
 use Rattle.nd_update.proofs.Touching.{node_still, corners_long}
 use Rattle.nd_update.proofs.Owning.{match_none, node_readable, node_count, node_links, node_grown, own_fresh, own_does, own_node_is, owned_same, unmarked_still}
+use Rattle.nd_update.proofs.Reading.{only_any, only_then}
 use Rattle.nd_update.proofs.inserts.own_node.Goals as goal
 
 pub read_word-first-requires-clause-row : goal.read_word-first-requires-clause-row
@@ -111,3 +110,21 @@ returns-clause-boxed c ms has =
     let first = node_still r [] [] [] c.args.pass.now c.read_word-first.new.pass c.read_word-first.ensures.does r.shape c.args.row ms (λ x here. refl) has in
     let is = c.grown_box-range.ensures.grown ms first (node_count r.shape (known_of c.args.pass.now) c.args.row ms c.read_word-first.result has c.read_word-first.ensures.word) in
     subst (IsBoxRow r.shape (known_words (known_of c.write_box.new.pass)) c.in_ok-own.own) is c.write_box.ensures.boxed
+
+pub returns-in_err-own-clause-only : goal.returns-in_err-own-clause-only
+returns-in_err-own-clause-only c =
+    let r = c.args.rows.now in
+    let row = c.args.row ∷ [] in
+    let end = c.own_row.new.pass in
+    only_then r [] [] [] row c.args.pass.now c.read_word-first.new.pass end c.read_word-first.ensures.does c.read_word-first.ensures.only
+    (only_then r [] [] [] row c.read_word-first.new.pass c.grown_box-range.new.pass end c.grown_box-range.ensures.does c.grown_box-range.ensures.only c.own_row.ensures.only)
+
+pub returns-clause-only : goal.returns-clause-only
+returns-clause-only c =
+    let r = c.args.rows.now in
+    let row = c.args.row ∷ [] in
+    let owned = c.in_ok-own.ensures.owned in
+    let end = c.write_box.new.pass in
+    only_then r [] [] [] row c.args.pass.now c.read_word-first.new.pass end c.read_word-first.ensures.does c.read_word-first.ensures.only
+    (only_then r [] [] [] row c.read_word-first.new.pass c.grown_box-range.new.pass end c.grown_box-range.ensures.does c.grown_box-range.ensures.only
+    (only_then r owned.0 owned.1 owned.0 row c.grown_box-range.new.pass c.own_row.new.pass end owned.2 c.own_row.ensures.only (only_any row (known_of c.own_row.new.pass) (known_of end) c.write_box.ensures.only)))

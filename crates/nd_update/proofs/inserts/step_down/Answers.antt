@@ -1,11 +1,11 @@
-use Rattle.std.proofs.Common.{◌≡◌, ℕ, ◌+◌, ◌<◌, Some, List, [], ◌∷◌, length, get_or, refl, sym, ap, subst, ◌∙◌, arith}
+use Rattle.std.proofs.Common.{◌≡◌, ◌+◌, ◌<◌, Some, [], ◌∷◌, length, get_or, refl, sym, ap, subst, ◌∙◌, arith}
 use Rattle.era_core.specs.Lists.{times, In}
-use Rattle.era_core.specs.Versions.{look_up}
-use Rattle.era_rows.specs.Known.{known_words, pinned_copy}
+use Rattle.era_core.proofs.ListFacts.{in_head, in_tail}
+use Rattle.era_rows.specs.Known.{pinned_copy}
 use Rattle.era_rows.specs.Passes.{known_of, marked_of}
 use Rattle.nd_rows.specs.declared.layout.TheConstants.{FIRST_LINK}
 use Rattle.nd_rows.specs.Nodes.{heads}
-use Rattle.nd_update.specs.Insertion.{place_among}
+use Rattle.nd_rows.proofs.Looks.{in_get}
 use Rattle.nd_update.specs.Ways.{HasNode, IsOwned, at_node}
 use Rattle.nd_update.proofs.Building.{does_both, read_does, still_fresh}
 use Rattle.nd_update.proofs.FullLeaves.{readable_low}
@@ -15,6 +15,7 @@ use Rattle.nd_update.proofs.Lacking.{does_lacks}
 use Rattle.nd_update.proofs.Paying.{paid_still}
 use Rattle.nd_update.proofs.Owning.{match_none, unmarked_still, owned_same}
 use Rattle.nd_update.proofs.Touching.{node_still}
+use Rattle.nd_update.proofs.Reading.{only_any, only_row, only_then}
 use Rattle.nd_update.proofs.inserts.step_down.Goals as goal
 
 pub overflow_cast-child : goal.overflow_cast-child
@@ -109,3 +110,38 @@ returns-clause-does c =
 pub returns-clause-paid : goal.returns-clause-paid
 returns-clause-paid c =
     paid_still c.args.rows.now 0 [] (c.args.row ∷ []) c.own_node.new.pass c.write_word.new.pass c.in_ok-own.ensures.owned.2.building c.write_word.ensures.does c.in_ok-own.ensures.paid
+
+pub returns-in_err-own-clause-only : goal.returns-in_err-own-clause-only
+returns-in_err-own-clause-only c b kids has long =
+    let r = c.args.rows.now in
+    let row = c.args.row in
+    let k = c.closest_child-place.result in
+    let p = c.args.pass.now in
+    let q = c.closest_child-place.new.pass in
+    let s = c.read_word-child.new.pass in
+    let low : k < length (heads kids) = omega (arith, long, c.closest_child-place.ensures.bound) in
+    let is = c.read_word-child.ensures.word _ (c.closest_child-place.ensures.does.elsewhere row (FIRST_LINK + k) refl ∙ child_word r.shape (known_of p) row b kids has k low) in
+    let all = row ∷ heads kids in
+    let child = only_row c.read_word-child.result all (known_of s) (known_of c.own_node.new.pass) (subst (λ x. In x all) (sym is) (in_tail (get_or (heads kids) k 0) row (heads kids) (in_get (heads kids) k low))) c.own_node.ensures.only in
+    let link = only_row row all (known_of q) (known_of s) (in_head row (heads kids)) c.read_word-child.ensures.only in
+    only_then r [] [] [] all p q c.own_node.new.pass c.closest_child-place.ensures.does (c.closest_child-place.ensures.only b kids has long)
+    (only_then r [] [] [] all q s c.own_node.new.pass c.read_word-child.ensures.does link child)
+
+pub returns-clause-only : goal.returns-clause-only
+returns-clause-only c b kids has long =
+    let r = c.args.rows.now in
+    let row = c.args.row in
+    let k = c.closest_child-place.result in
+    let p = c.args.pass.now in
+    let q = c.closest_child-place.new.pass in
+    let s = c.read_word-child.new.pass in
+    let low : k < length (heads kids) = omega (arith, long, c.closest_child-place.ensures.bound) in
+    let is = c.read_word-child.ensures.word _ (c.closest_child-place.ensures.does.elsewhere row (FIRST_LINK + k) refl ∙ child_word r.shape (known_of p) row b kids has k low) in
+    let all = row ∷ heads kids in
+    let child = only_row c.read_word-child.result all (known_of s) (known_of c.own_node.new.pass) (subst (λ x. In x all) (sym is) (in_tail (get_or (heads kids) k 0) row (heads kids) (in_get (heads kids) k low))) c.own_node.ensures.only in
+    let link = only_row row all (known_of q) (known_of s) (in_head row (heads kids)) c.read_word-child.ensures.only in
+    let owned = c.in_ok-own.ensures.owned in
+    let end = c.write_word.new.pass in
+    only_then r [] [] [] all p q end c.closest_child-place.ensures.does (c.closest_child-place.ensures.only b kids has long)
+    (only_then r [] [] [] all q s end c.read_word-child.ensures.does link
+    (only_then r owned.0 owned.1 (c.in_ok-own.own ∷ []) all s c.own_node.new.pass end owned.2 child (only_any all (known_of c.own_node.new.pass) (known_of end) c.write_word.ensures.only)))

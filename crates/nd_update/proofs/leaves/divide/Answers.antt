@@ -1,23 +1,25 @@
-use Rattle.std.proofs.Common.{◌≡◌, ℕ, ◌+◌, ◌*◌, ◌<◌, ◌≤◌, Some, ℤ, List, [], ◌∷◌, ◌++◌, length, take, get_or, refl, sym, ap, subst, ◌∙◌, arith}
+use Rattle.std.proofs.Common.{◌≡◌, ◌+◌, ◌*◌, ◌<◌, ◌≤◌, Some, [], ◌∷◌, ◌++◌, length, get_or, refl, sym, ap, subst, ◌∙◌, arith}
 use Rattle.std.proofs.lemmas.List.{take_all, length-map}
 use Rattle.era_core.specs.declared.sizes.TheConstants.{KINDS}
 use Rattle.era_core.specs.Lists.{In}
-use Rattle.era_core.specs.Versions.{look_up}
+use Rattle.era_core.proofs.ListFacts.{in_head, in_tail}
 use Rattle.era_rows.specs.Known.{known_words}
 use Rattle.era_rows.specs.Passes.{known_of, marked_of, IsReadable}
 use Rattle.pls_archive.specs.Lists.{Every}
 use Rattle.nd_rows.specs.declared.layout.TheConstants.{INNER, FIRST_LINK, VALUE}
 use Rattle.nd_rows.specs.Nodes.{Placed, rows_with}
 use Rattle.nd_rows.specs.Layout.{HasValue}
+use Rattle.nd_rows.proofs.Looks.{in_get}
 use Rattle.nd_tree.specs.Split.{split}
 use Rattle.nd_update.specs.Insertion.{values_with}
 use Rattle.nd_update.specs.FilledLeaves.{AreGroupLeaves}
-use Rattle.nd_update.proofs.Building.{does_both, does_wider, does_write, still_fresh, still_readable}
+use Rattle.nd_update.proofs.Building.{does_both, does_wider, still_fresh, still_readable}
 use Rattle.nd_update.proofs.Filling.{first_row, rows_push}
 use Rattle.nd_update.proofs.FullLeaves.{put_next, put_all, every_get, readable_low, link_word, link_readable, link_value, all_long, all_uniform, values_push, groups_does, groups_link, groups_kept, groups_next, groups_few, groups_are, groups_count, value_read, long_push, done_does, done_groups}
 use Rattle.nd_update.proofs.Lacking.{does_lacks}
 use Rattle.nd_update.proofs.Owning.{match_none}
 use Rattle.nd_update.proofs.Paying.{paid_more, paid_still, paid_took}
+use Rattle.nd_update.proofs.Reading.{only_row, only_then, only_still}
 use Rattle.nd_update.proofs.leaves.divide.Goals as goal
 
 pub overflow_cast-link : goal.overflow_cast-link
@@ -65,6 +67,18 @@ loop-k-preserved c =
     record {
       does = does_both r [] [] [] [] [] [] c.args.pass.now c.read_word-link.new.pass c.read_value.new.pass both c.read_value.ensures.does;
       work = c.read_value.ensures.work ∙ c.read_word-link.ensures.work ∙ c.loop-k.invariant.work;
+      only = λ placed has long.
+          let low : k < length placed = omega (arith, long, c.loop-k-test.true) in
+          let word = link_word r.shape (known_of c.args.pass.now) c.args.row placed has k low in
+          let is = c.read_word-link.ensures.word _ (c.loop-k.invariant.does.elsewhere c.args.row (FIRST_LINK + k) refl ∙ word) in
+          let rows = rows_with placed in
+          let rows_low : k < length rows = (let same = length-map placed (λ (p : Placed). p.row) in omega (arith, same, low)) in
+          let all = c.args.row ∷ rows in
+          let q = c.read_word-link.new.pass in
+          let s = c.read_value.new.pass in
+          only_then r [] [] [] all c.args.pass.now c.loop-k.pass s c.loop-k.invariant.does (c.loop-k.invariant.only placed has long)
+          (only_then r [] [] [] all c.loop-k.pass q s c.read_word-link.ensures.does (only_row c.args.row all (known_of c.loop-k.pass) (known_of q) (in_head c.args.row rows) c.read_word-link.ensures.only)
+          (only_row c.read_word-link.result all (known_of q) (known_of s) (subst (λ x. In x all) (sym is) (in_tail (get_or rows k 0) c.args.row rows (in_get rows k rows_low))) c.read_value.ensures.only));
       read = λ placed has long.
           let low : k < length placed = omega (arith, long, c.loop-k-test.true) in
           let less : k < 21 = omega (arith, c.loop-k-test.true) in
@@ -95,6 +109,7 @@ loop-g-init c =
     let row = c.args.row in
     record {
       work = c.loop-k.invariant.work;
+      only = c.loop-k.invariant.only;
       paid = paid_still r 1 [] [] c.args.pass.now c.loop-k.pass c.requires.building c.loop-k.invariant.does c.requires.paid;
       kept = λ k high. c.loop-k.invariant.does.elsewhere row k refl;
       written = ([], refl, does_wider r [] [] [] (row ∷ []) c.args.pass.now c.loop-k.pass (λ x here. absurd (let none : In x [] = here in omega arith)) c.loop-k.invariant.does, tt, λ placed rows values. tt);
@@ -173,6 +188,8 @@ loop-g-preserved c =
     let low : g < length c.split-groups.result = omega (arith, c.loop-g-test.true, c.count-g-end.ensures) in
     record {
       work = c.write_word.ensures.work ∙ c.in_ok-leaf.ensures.work ∙ inv.work;
+      only = λ placed has long.
+          only_still r leaves [] (row ∷ leaves) (row ∷ rows_with placed) p q u written.2 (inv.only placed has long) (only_then r (leaf ∷ []) [] (leaf ∷ []) [] q s u wrote c.write_group.ensures.only c.write_word.ensures.only);
       paid = paid_still r (g + 1 + 1) [] (row ∷ []) s u wrote.building linked (paid_took r (g + 1) leaf [] (leaf ∷ []) q s written.2.building wrote inv.paid);
       kept = groups_kept r row leaves leaf p q s u written.2 wrote linked c.requires.fresh (FIRST_LINK + g) (omega (arith, low, few)) inv.kept c.write_word.ensures.outside;
       written = (
@@ -228,3 +245,13 @@ returns-clause-divided c =
             leaves_are = done_groups r row written.0 c.args.pass.now c.loop-g.pass c.write_first.new.pass written.2 c.write_first.ensures.does c.requires.fresh r.shape (placed ++ q ∷ []) (split (values_with (placed ++ q ∷ []))) each;
           },
     )
+
+pub returns-in_err-leaf-clause-only : goal.returns-in_err-leaf-clause-only
+returns-in_err-leaf-clause-only c placed has long =
+    let written = c.loop-g.invariant.written in
+    only_still c.args.rows.now written.0 [] (c.args.row ∷ written.0) (c.args.row ∷ rows_with placed) c.args.pass.now c.loop-g.pass c.write_group.new.pass written.2 (c.loop-g.invariant.only placed has long) c.write_group.ensures.only
+
+pub returns-clause-only : goal.returns-clause-only
+returns-clause-only c placed has long =
+    let written = c.loop-g.invariant.written in
+    only_still c.args.rows.now written.0 [] (c.args.row ∷ written.0) (c.args.row ∷ rows_with placed) c.args.pass.now c.loop-g.pass c.write_first.new.pass written.2 (c.loop-g.invariant.only placed has long) c.write_first.ensures.only

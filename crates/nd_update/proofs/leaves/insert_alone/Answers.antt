@@ -6,6 +6,7 @@ use Rattle.nd_update.proofs.Filling.{point_does, point_paid, alone_does, alone_p
 use Rattle.nd_update.proofs.Lacking.{does_lacks}
 use Rattle.nd_update.proofs.Owning.{match_none}
 use Rattle.nd_update.proofs.Paying.{paid_more}
+use Rattle.nd_update.proofs.Reading.{only_then}
 use Rattle.nd_update.proofs.leaves.insert_alone.Goals as goal
 
 pub take_row-requires-clause-paid : goal.take_row-requires-clause-paid
@@ -55,3 +56,26 @@ returns-clause-inserted c =
           c.take_row-2.new.pass c.write_word.new.pass c.write_first.new.pass c.write_box.new.pass c.in_ok-leaf.ensures.does c.write_word.ensures.does c.write_first.ensures.does c.write_box.ensures.does
           c.args.point.now c.of.result (c.write_word.ensures.word ∙ ap Some c.from.ensures) c.write_first.ensures.outside c.write_first.ensures.word c.write_box.ensures.outside c.write_box.ensures.boxed c.of.ensures,
     )
+
+pub returns-in_err-at-clause-only : goal.returns-in_err-at-clause-only
+returns-in_err-at-clause-only c = c.take_row.ensures.only
+
+pub returns-in_err-leaf-clause-only : goal.returns-in_err-leaf-clause-only
+returns-in_err-leaf-clause-only c =
+    let r = c.args.rows.now in
+    let at = c.in_ok-at.at in
+    let end = c.take_row-2.new.pass in
+    only_then r (at ∷ []) [] [] [] c.args.pass.now c.take_row.new.pass end c.in_ok-at.ensures.does c.take_row.ensures.only
+    (only_then r [] [] (at ∷ []) [] c.take_row.new.pass c.write_point.new.pass end c.write_point.ensures.does c.write_point.ensures.only c.take_row-2.ensures.only)
+
+pub returns-clause-only : goal.returns-clause-only
+returns-clause-only c =
+    let r = c.args.rows.now in
+    let at = c.in_ok-at.at in
+    let leaf = c.in_ok-leaf.leaf in
+    let end = c.write_box.new.pass in
+    only_then r (at ∷ []) [] [] [] c.args.pass.now c.take_row.new.pass end c.in_ok-at.ensures.does c.take_row.ensures.only
+    (only_then r [] [] (at ∷ []) [] c.take_row.new.pass c.write_point.new.pass end c.write_point.ensures.does c.write_point.ensures.only
+    (only_then r (leaf ∷ []) [] [] [] c.write_point.new.pass c.take_row-2.new.pass end c.in_ok-leaf.ensures.does c.take_row-2.ensures.only
+    (only_then r [] [] (leaf ∷ []) [] c.take_row-2.new.pass c.write_word.new.pass end c.write_word.ensures.does c.write_word.ensures.only
+    (only_then r [] [] (leaf ∷ []) [] c.write_word.new.pass c.write_first.new.pass end c.write_first.ensures.does c.write_first.ensures.only c.write_box.ensures.only))))

@@ -1,17 +1,18 @@
-use Rattle.std.proofs.Common.{◌≡◌, ℕ, ◌+◌, ◌*◌, ◌≤◌, inr, Some, List, [], ◌∷◌, ◌++◌, length, refl, sym, ap, subst, ◌∙◌, arith}
+use Rattle.std.proofs.Common.{◌≡◌, ◌+◌, ◌*◌, inr, Some, [], ◌∷◌, refl, sym, ap, subst, ◌∙◌, arith}
 use Rattle.era_core.specs.declared.sizes.TheConstants.{KINDS}
 use Rattle.era_core.specs.Versions.{look_up}
 use Rattle.era_core.proofs.ListFacts.{in_head}
 use Rattle.era_rows.specs.Known.{known_words}
 use Rattle.era_rows.specs.Passes.{known_of, marked_of}
-use Rattle.nd_rows.specs.declared.layout.TheConstants.{LEAF, FIRST_LINK, IDEAL}
-use Rattle.nd_rows.specs.Nodes.{Placed}
+use Rattle.nd_rows.specs.declared.layout.TheConstants.{LEAF, FIRST_LINK}
+use Rattle.nd_rows.specs.Nodes.{rows_with}
 use Rattle.nd_update.specs.Building.{Outside}
 use Rattle.nd_update.proofs.Building.{now_fresh, still_fresh, writes_both}
 use Rattle.nd_update.proofs.Filling.{match_both, point_does, point_paid, row_fresh, linked_on, put_does, put_kept, put_fits, put_full, leaf_row}
 use Rattle.nd_update.proofs.Lacking.{does_lacks}
 use Rattle.nd_update.proofs.Owning.{match_none}
 use Rattle.nd_update.proofs.Paying.{paid_more}
+use Rattle.nd_update.proofs.Reading.{only_any, only_then, then_only}
 use Rattle.nd_update.proofs.leaves.insert_in_leaf.Goals as goal
 
 pub take_row-requires-clause-paid : goal.take_row-requires-clause-paid
@@ -100,3 +101,26 @@ returns-clause-put c =
           (subst (λ n. look_up d row 0 ≡ Some (KINDS * (n + 1) + LEAF)) (sym long) c.write_first.ensures.word))
           c.write_point.ensures.point,
     )
+
+pub returns-in_err-at-clause-only : goal.returns-in_err-at-clause-only
+returns-in_err-at-clause-only c placed has long = only_any (c.args.row ∷ rows_with placed) (known_of c.args.pass.now) (known_of c.take_row.new.pass) c.take_row.ensures.only
+
+pub returns-then-count-clause-only : goal.returns-then-count-clause-only
+returns-then-count-clause-only c placed has long =
+    let r = c.args.rows.now in
+    let at = c.in_ok-at.at in
+    let all = c.args.row ∷ rows_with placed in
+    let end = c.divide.new.pass in
+    then_only r (at ∷ []) [] [] all c.args.pass.now c.take_row.new.pass end c.in_ok-at.ensures.does c.take_row.ensures.only
+    (then_only r [] [] (at ∷ []) all c.take_row.new.pass c.write_point.new.pass end c.write_point.ensures.does c.write_point.ensures.only
+    (c.divide.ensures.only placed (linked_on r r.shape at c.args.row c.args.pass.now c.take_row.new.pass c.write_point.new.pass c.in_ok-at.ensures.does c.write_point.ensures.does c.requires.fresh placed has) (long ∙ c.if-count.true)))
+
+pub returns-clause-only : goal.returns-clause-only
+returns-clause-only c placed has long =
+    let r = c.args.rows.now in
+    let at = c.in_ok-at.at in
+    let end = c.write_first.new.pass in
+    only_any (c.args.row ∷ rows_with placed) (known_of c.args.pass.now) (known_of end)
+    (only_then r (at ∷ []) [] [] [] c.args.pass.now c.take_row.new.pass end c.in_ok-at.ensures.does c.take_row.ensures.only
+    (only_then r [] [] (at ∷ []) [] c.take_row.new.pass c.write_point.new.pass end c.write_point.ensures.does c.write_point.ensures.only
+    (only_then r [] [] (c.args.row ∷ []) [] c.write_point.new.pass c.write_word.new.pass end c.write_word.ensures.does c.write_word.ensures.only c.write_first.ensures.only)))

@@ -1,4 +1,4 @@
-use Rattle.std.proofs.Common.{◌≡◌, ℕ, ◌+◌, ◌*◌, ◌<◌, ◌≤◌, Some, List, [], ◌∷◌, length, take, get_or, refl, sym, ap, subst, ◌∙◌, arith, ℤ, IsTrue}
+use Rattle.std.proofs.Common.{◌≡◌, ℕ, ◌+◌, ◌*◌, ◌<◌, Some, List, [], ◌∷◌, length, take, get_or, refl, sym, ap, subst, ◌∙◌, arith, ℤ, IsTrue}
 use Rattle.std.proofs.lemmas.List.{take_all}
 use Rattle.era_core.specs.declared.sizes.TheConstants.{KINDS}
 use Rattle.era_core.proofs.ListFacts.{in_head}
@@ -11,6 +11,7 @@ use Rattle.nd_update.specs.Insertion.{at_places}
 use Rattle.nd_update.proofs.Building.{does_both, does_write, now_fresh, still_fresh}
 use Rattle.nd_update.proofs.Filling.{link_row, link_first, links_long, link_next, box_first, box_next, box_long}
 use Rattle.nd_update.proofs.Owning.{match_none}
+use Rattle.nd_update.proofs.Reading.{only_then}
 use Rattle.nd_update.proofs.leaves.write_group.Goals as goal
 
 pub returns-in_err-leaf-clause-does : goal.returns-in_err-leaf-clause-does
@@ -37,6 +38,7 @@ loop-k-init c =
       least = omega arith;
       does = does_both c.args.rows.now (leaf ∷ []) [] [] [] [] (leaf ∷ []) c.args.pass.now c.take_row.new.pass c.write_word.new.pass c.in_ok-leaf.ensures.does c.write_word.ensures.does;
       work = c.write_word.ensures.work ∙ c.in_ok-leaf.ensures.work;
+      only = only_then c.args.rows.now (leaf ∷ []) [] [] [] c.args.pass.now c.take_row.new.pass c.write_word.new.pass c.in_ok-leaf.ensures.does c.take_row.ensures.only c.write_word.ensures.only;
       linked = link_first d leaf links values group inside parts (known_words (known_of c.write_word.new.pass)) x some c.from.ensures c.write_word.ensures.word;
       long = links_long d leaf links values group inside parts 0 x some c.from.ensures refl;
       range = box_first d leaf links values group inside parts v c.of-range.result some c.index-values-group.is one;
@@ -68,6 +70,7 @@ loop-k-preserved c =
       least = omega arith;
       does = does_write c.args.rows.now (leaf ∷ []) [] (leaf ∷ []) (leaf ∷ []) c.args.pass.now c.loop-k.pass now.new.pass (λ y here. here) so_far.does now.ensures.does;
       work = now.ensures.work ∙ so_far.work;
+      only = only_then c.args.rows.now (leaf ∷ []) [] (leaf ∷ []) [] c.args.pass.now c.loop-k.pass now.new.pass so_far.does so_far.only now.ensures.only;
       linked = link_next d leaf links values group inside parts k x (FIRST_LINK + k) (known_words (known_of c.loop-k.pass)) (known_words (known_of now.new.pass)) low c.from-in-loop-k.ensures refl so_far.long so_far.linked now.ensures.outside now.ensures.word;
       long = links_long d leaf links values group inside parts k x low c.from-in-loop-k.ensures so_far.long;
       range = box_next d leaf links values group inside parts k v c.loop-k.range c.grow.new.self so_far.least low c.index-values-group-in-loop-k.is so_far.range (c.grow.ensures.value ∙ ap (λ z. grown c.loop-k.range z) (sym c.index-values-group-in-loop-k.is));
@@ -103,3 +106,14 @@ returns-clause-links c =
     let long : length (at_places links group) ≡ length group = sym (ap (λ ks. length (at_places links ks)) all) ∙ c.loop-k.invariant.long ∙ done in
     link_row LEAF leaf (at_places links group) (known_words (known_of c.loop-k.pass)) (known_words (known_of c.write_first.new.pass)) (known_words (known_of c.write_box.new.pass)) linked (omega (arith, long, c.requires.group.1))
     c.write_first.ensures.outside (c.write_first.ensures.word ∙ ap (λ n. Some (KINDS * n + LEAF)) (sym long)) c.write_box.ensures.outside
+
+pub returns-in_err-leaf-clause-only : goal.returns-in_err-leaf-clause-only
+returns-in_err-leaf-clause-only c = c.take_row.ensures.only
+
+pub returns-clause-only : goal.returns-clause-only
+returns-clause-only c =
+    let r = c.args.rows.now in
+    let leaf = c.in_ok-leaf.leaf in
+    let end = c.write_box.new.pass in
+    only_then r (leaf ∷ []) [] (leaf ∷ []) [] c.args.pass.now c.loop-k.pass end c.loop-k.invariant.does c.loop-k.invariant.only
+    (only_then r [] [] (leaf ∷ []) [] c.loop-k.pass c.write_first.new.pass end c.write_first.ensures.does c.write_first.ensures.only c.write_box.ensures.only)

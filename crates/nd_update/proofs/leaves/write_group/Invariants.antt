@@ -5,6 +5,7 @@ use Rattle.nd_rows.specs.declared.layout.TheConstants.{FIRST_LINK}
 use Rattle.nd_rows.specs.Layout.{HasWords}
 use Rattle.nd_update.specs.Building.{Does}
 use Rattle.nd_update.specs.Insertion.{at_places}
+use Rattle.nd_update.specs.Needed.{ReadsOnly}
 use Rattle.nd_update.specs.FilledLeaves.{values_box}
 use Rattle.nd_update.proofs.leaves.write_group.Given as goal
 
@@ -14,6 +15,7 @@ invariant-loop-k l = record {
   least : 1 ≤ l.k;
   does : Does l.rows (l.leaf ∷ []) [] (l.leaf ∷ []) l.fn.pass l.pass;
   work : work_of l.pass ≡ work_of l.fn.pass;
+  only : ReadsOnly [] (known_of l.fn.pass) (known_of l.pass);
   linked : HasWords (known_words (known_of l.pass)) l.leaf FIRST_LINK (at_places l.links (take l.k l.group));
   long : length (at_places l.links (take l.k l.group)) ≡ l.k;
   range : l.range ≡ values_box (at_places l.values (take l.k l.group));

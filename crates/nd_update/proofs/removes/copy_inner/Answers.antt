@@ -8,15 +8,16 @@ use Rattle.nd_rows.specs.Nodes.{heads}
 use Rattle.nd_update.specs.Left.{alive}
 use Rattle.nd_update.proofs.Building.{writes_both, does_read, still_fresh}
 use Rattle.nd_update.proofs.Paying.{still_read}
+use Rattle.nd_update.proofs.Reading.{only_none, only_any, only_then}
 use Rattle.nd_update.proofs.Removing.{drop_there, alive_split, few_alive}
 use Rattle.nd_update.proofs.LeafSteps.{copied}
-use Rattle.nd_update.proofs.CopyDone.{writes_none, readable_row, box_known, copy_does}
+use Rattle.nd_update.proofs.CopyDone.{writes_none, readable_row, box_known, copy_does, copy_only}
 use Rattle.nd_update.proofs.removes.copy_inner.Goals as goal
 use mathlib.Core.Option.{some}
 use lib.ListN.{get_elem?}
 
 pub loop-k-init : goal.loop-k-init
-loop-k-init c = (writes_none c.args.rows.now c.args.pass.now c.args.own c.requires.building, refl, ([], tt, refl, refl), omega arith)
+loop-k-init c = (writes_none c.args.rows.now c.args.pass.now c.args.own c.requires.building, refl, ([], tt, refl, refl), omega arith, only_none (c.args.row ∷ []) (known_of c.args.pass.now))
 
 pub copy_child-place-requires-clause-building : goal.copy_child-place-requires-clause-building
 copy_child-place-requires-clause-building c = c.loop-k.invariant.0.building
@@ -49,6 +50,7 @@ loop-k-preserved c =
         append_assoc links (alive (found ∷ [])) (alive rest) ∙ ap (λ ws. links ++ ws) (sym (ap alive here ∙ alive_split found rest)) ∙ so_far.3,
       ),
       (let one = few_alive (found ∷ []) in let m = c.copy_child-place.ensures.place in let low = c.loop-k.invariant.3 in omega (arith, one, m, low)),
+      only_then r [] [] (c.args.own ∷ []) (c.args.row ∷ []) p q s c.loop-k.invariant.0 c.loop-k.invariant.4 (only_any (c.args.row ∷ []) (known_of q) (known_of s) c.copy_child-place.ensures.only),
     )
 
 pub write_first-requires-clause-building : goal.write_first-requires-clause-building
@@ -92,6 +94,11 @@ write_box-requires-clause-parts c =
 
 pub returns-clause-does : goal.returns-clause-does
 returns-clause-does c = copy_does c.args.rows.now c.args.own c.args.pass.now c.loop-k.pass c.write_first.new.pass c.read_box-range.new.pass c.write_box.new.pass c.loop-k.invariant.0 c.write_first.ensures.does c.read_box-range.ensures.does c.write_box.ensures.does
+
+pub returns-clause-only : goal.returns-clause-only
+returns-clause-only c =
+    copy_only c.args.rows.now c.args.own c.args.row c.args.pass.now c.loop-k.pass c.write_first.new.pass c.read_box-range.new.pass c.write_box.new.pass c.loop-k.invariant.0 c.write_first.ensures.does c.read_box-range.ensures.does
+    c.loop-k.invariant.4 c.write_first.ensures.only c.read_box-range.ensures.only c.write_box.ensures.only
 
 pub returns-clause-read : goal.returns-clause-read
 returns-clause-read c =

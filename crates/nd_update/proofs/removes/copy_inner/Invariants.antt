@@ -4,6 +4,7 @@ use Rattle.era_rows.specs.Passes.{known_of, work_of}
 use Rattle.nd_rows.specs.declared.layout.TheConstants.{FIRST_LINK}
 use Rattle.nd_rows.specs.Layout.{HasWords}
 use Rattle.nd_update.specs.Building.{Does}
+use Rattle.nd_update.specs.Needed.{ReadsOnly}
 use Rattle.nd_update.specs.Left.{alive}
 use Rattle.nd_update.proofs.removes.copy_inner.Given as goal
 
@@ -15,3 +16,4 @@ invariant-loop-k l =
     × ((links : List ℕ) × HasWords (known_words (known_of l.pass)) l.own FIRST_LINK links × (length links ≡ l.place)
     × (links ++ alive (drop l.k (work_of l.fn.pass)) ≡ alive (drop l.from (work_of l.fn.pass))))
     × (l.place + l.from ≤ l.k)
+    × ReadsOnly (l.row ∷ []) (known_of l.fn.pass) (known_of l.pass)

@@ -7,13 +7,14 @@ use Rattle.nd_rows.specs.Nodes.{rows_with}
 use Rattle.nd_rows.proofs.Pending.{length_rows}
 use Rattle.nd_update.specs.Removal.{staying}
 use Rattle.nd_update.proofs.Building.{writes_both, does_read, still_fresh}
+use Rattle.nd_update.proofs.Reading.{only_none, only_then}
 use Rattle.nd_update.proofs.Removing.{row_still}
 use Rattle.nd_update.proofs.LeafSteps.{take_all, staying_few, stays_more, copied, point, point_drop, point_link}
-use Rattle.nd_update.proofs.CopyDone.{writes_none, readable_row, box_known, copy_does}
+use Rattle.nd_update.proofs.CopyDone.{writes_none, readable_row, box_known, copy_does, copy_only}
 use Rattle.nd_update.proofs.removes.copy_leaf.Goals as goal
 
 pub loop-k-init : goal.loop-k-init
-loop-k-init c = (writes_none c.args.rows.now c.args.pass.now c.args.own c.requires.building, refl, λ v b placed is. (tt, refl))
+loop-k-init c = (writes_none c.args.rows.now c.args.pass.now c.args.own c.requires.building, refl, λ v b placed is. (tt, refl), only_none (c.args.row ∷ []) (known_of c.args.pass.now))
 
 pub copy_link-place-requires-clause-building : goal.copy_link-place-requires-clause-building
 copy_link-place-requires-clause-building c = c.loop-k.invariant.0.building
@@ -57,6 +58,7 @@ loop-k-preserved c =
           let stay = staying v (take c.loop-k.k placed) in
           stays_more v placed c.loop-k.k pt (point_drop r p q c.args.row placed is.points [] [] (c.args.own ∷ []) c.loop-k.invariant.0 c.loop-k.k low) c.args.hits.now is.hit (known_words (known_of s)) c.args.own c.loop-k.place c.copy_link-place.result so_far.1
           (c.copy_link-place.ensures.links pt.row (rows_with stay) link so_far.0 (length_rows stay ∙ sym so_far.1)) c.copy_link-place.ensures.place,
+      only_then r [] [] (c.args.own ∷ []) (c.args.row ∷ []) p q s c.loop-k.invariant.0 c.loop-k.invariant.3 c.copy_link-place.ensures.only,
     )
 
 pub write_first-requires-clause-building : goal.write_first-requires-clause-building
@@ -100,6 +102,11 @@ write_box-requires-clause-parts c =
 
 pub returns-clause-does : goal.returns-clause-does
 returns-clause-does c = copy_does c.args.rows.now c.args.own c.args.pass.now c.loop-k.pass c.write_first.new.pass c.read_box-range.new.pass c.write_box.new.pass c.loop-k.invariant.0 c.write_first.ensures.does c.read_box-range.ensures.does c.write_box.ensures.does
+
+pub returns-clause-only : goal.returns-clause-only
+returns-clause-only c =
+    copy_only c.args.rows.now c.args.own c.args.row c.args.pass.now c.loop-k.pass c.write_first.new.pass c.read_box-range.new.pass c.write_box.new.pass c.loop-k.invariant.0 c.write_first.ensures.does c.read_box-range.ensures.does
+    c.loop-k.invariant.3 c.write_first.ensures.only c.read_box-range.ensures.only c.write_box.ensures.only
 
 pub returns-clause-leaf : goal.returns-clause-leaf
 returns-clause-leaf c v b placed is =

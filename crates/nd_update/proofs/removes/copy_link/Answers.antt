@@ -5,6 +5,8 @@ use Rattle.era_rows.specs.Passes.{known_of}
 use Rattle.nd_rows.specs.declared.layout.TheConstants.{FIRST_LINK}
 use Rattle.nd_rows.specs.Layout.{HasWords}
 use Rattle.nd_update.proofs.Building.{read_does, looks_do, looks_words, words_outside, words_snoc}
+use Rattle.nd_update.proofs.Reading.{only_none, only_any}
+use Rattle.nd_update.proofs.Opening.{only_looks}
 use Rattle.nd_update.proofs.removes.copy_link.Goals as goal
 
 pub write_word-requires-clause-building : goal.write_word-requires-clause-building
@@ -28,3 +30,11 @@ returns-clause-links c x links there has len =
     (words_snoc now own 1 links x
     (words_outside own (1 + c.args.place) (1 + c.args.place + 1) mid now c.write_word.ensures.outside own 1 links (inr (inl (omega (arith, len)))) before)
     (ap (look_up now own) at ∙ c.write_word.ensures.word ∙ ap Some (c.word-link.ensures.word x there)))
+
+pub returns-then-hit-clause-only : goal.returns-then-hit-clause-only
+returns-then-hit-clause-only c = only_none (c.args.row ∷ []) (known_of c.args.pass.now)
+
+pub returns-clause-only : goal.returns-clause-only
+returns-clause-only c =
+    let q = c.word-link.new.pass in
+    only_looks c.args.rows.now (c.args.row ∷ []) c.args.pass.now q c.write_word.new.pass c.requires.building c.word-link.ensures.looks (only_any (c.args.row ∷ []) (known_of q) (known_of c.write_word.new.pass) c.write_word.ensures.only)

@@ -6,6 +6,7 @@ use Rattle.era_rows.specs.Passes.{known_of, marked_of, work_of}
 use Rattle.nd_update.specs.Left.{alive, IsBoxed}
 use Rattle.nd_update.proofs.Building.{does_none, does_both, now_fresh}
 use Rattle.nd_update.proofs.Paying.{paid_more}
+use Rattle.nd_update.proofs.Reading.{only_none, only_any, only_then}
 use Rattle.nd_update.proofs.Removing.{stay_pinned, row_still}
 use Rattle.nd_update.proofs.Sweeping.{nothing_stays}
 use Rattle.nd_update.proofs.RemovingAll.{single}
@@ -77,6 +78,21 @@ pub returns-clause-does : goal.returns-clause-does
 returns-clause-does c =
     let own = c.in_ok-own.own in
     (own ∷ [], omega arith, λ _. c.copy_inner.ensures.read, does_both c.args.rows.now (own ∷ []) [] [] [] [] (own ∷ []) c.args.pass.now c.take_row.new.pass c.copy_inner.new.pass c.in_ok-own.ensures.does c.copy_inner.ensures.does)
+
+pub returns-then-count-eq0-clause-only : goal.returns-then-count-eq0-clause-only
+returns-then-count-eq0-clause-only c = only_none (c.args.row ∷ []) (known_of c.args.pass.now)
+
+pub returns-then-count-eq1-clause-only : goal.returns-then-count-eq1-clause-only
+returns-then-count-eq1-clause-only c = only_none (c.args.row ∷ []) (known_of c.args.pass.now)
+
+pub returns-in_err-own-clause-only : goal.returns-in_err-own-clause-only
+returns-in_err-own-clause-only c = only_any (c.args.row ∷ []) (known_of c.args.pass.now) (known_of c.take_row.new.pass) c.take_row.ensures.only
+
+pub returns-clause-only : goal.returns-clause-only
+returns-clause-only c =
+    let p = c.args.pass.now in
+    let q = c.take_row.new.pass in
+    only_then c.args.rows.now (c.in_ok-own.own ∷ []) [] [] (c.args.row ∷ []) p q c.copy_inner.new.pass c.in_ok-own.ensures.does (only_any (c.args.row ∷ []) (known_of p) (known_of q) c.take_row.ensures.only) c.copy_inner.ensures.only
 
 pub returns-clause-left : goal.returns-clause-left
 returns-clause-left c v b kids named boxed left =

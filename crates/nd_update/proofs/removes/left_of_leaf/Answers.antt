@@ -7,6 +7,7 @@ use Rattle.nd_update.specs.Left.{IsHitLeaf}
 use Rattle.era_core.specs.Versions.{Copy}
 use Rattle.nd_update.proofs.Building.{does_none, does_both, now_fresh}
 use Rattle.nd_update.proofs.Paying.{paid_more}
+use Rattle.nd_update.proofs.Reading.{only_none, only_any, only_then}
 use Rattle.nd_update.proofs.Removing.{stay_pinned, inside_now}
 use Rattle.nd_update.proofs.Sweeping.{known_rows}
 use Rattle.nd_update.proofs.LeafDone.{leaf_all, leaf_some}
@@ -52,3 +53,15 @@ returns-clause-left c v b placed is =
       leaf_some r.rows r.shape (pinned_copy (known_of p)) c.args.row c.args.count c.args.hits.now v b placed is (known_words (known_of c.copy_leaf.new.pass)) c.args.hit c.requires.hit.0 c.requires.hit.1 c.if-hit-count.false
           (known_rows r.rows v r.shape (pinned_copy (known_of p)) r.few_rows (inside_now r p c.requires.building.is_pass) (rows_with placed) is.points.among) own c.told-2.result (let e = c.told-2.ensures in omega (arith, e)) (c.copy_leaf.ensures.leaf v b placed there),
     )
+
+pub returns-then-hit-count-clause-only : goal.returns-then-hit-count-clause-only
+returns-then-hit-count-clause-only c = only_none (c.args.row ∷ []) (known_of c.args.pass.now)
+
+pub returns-in_err-own-clause-only : goal.returns-in_err-own-clause-only
+returns-in_err-own-clause-only c = only_any (c.args.row ∷ []) (known_of c.args.pass.now) (known_of c.take_row.new.pass) c.take_row.ensures.only
+
+pub returns-clause-only : goal.returns-clause-only
+returns-clause-only c =
+    let p = c.args.pass.now in
+    let q = c.take_row.new.pass in
+    only_then c.args.rows.now (c.in_ok-own.own ∷ []) [] [] (c.args.row ∷ []) p q c.copy_leaf.new.pass c.in_ok-own.ensures.does (only_any (c.args.row ∷ []) (known_of p) (known_of q) c.take_row.ensures.only) c.copy_leaf.ensures.only

@@ -1,6 +1,8 @@
 use Rattle.std.proofs.Common.{[], ◌∷◌, ◌++◌, ◌<◌, suc, length, take, drop, get_or, sym, ap, ap₂, ◌∙◌, arith, append_assoc, drop-cons}
 use Rattle.era_rows.specs.Passes.{work_of}
 use Rattle.nd_update.proofs.Building.{looks_do, read_does}
+use Rattle.nd_update.proofs.Reading.{only_then, only_list}
+use Rattle.nd_update.proofs.Opening.{only_looks}
 use Rattle.nd_update.proofs.Removing.{take_more, does_work, link_at}
 use Rattle.nd_update.proofs.removes.list_links.Goals as goal
 
@@ -21,4 +23,5 @@ loop-k-preserved c =
           push.work ∙ ap₂ (λ ws x. ws ++ x ∷ []) (c.word-link.ensures.work ∙ c.loop-k.invariant.1 links has len) (c.word-link.ensures.word _ (link_at r [] [] [] p q so_far c.args.row links has c.loop-k.k low))
           ∙ append_assoc (work_of p) (take c.loop-k.k links) (get_or links c.loop-k.k 0 ∷ [])
           ∙ ap (λ ws. work_of p ++ ws) (sym (take_more links c.loop-k.k (get_or links c.loop-k.k 0) (drop (suc c.loop-k.k) links) (drop-cons links c.loop-k.k 0 low))),
+      only_then r [] [] [] (c.args.row ∷ []) p q t so_far c.loop-k.invariant.2 (only_looks r (c.args.row ∷ []) q s t so_far.building c.word-link.ensures.looks (only_list (c.args.row ∷ []) s t push.known)),
     )

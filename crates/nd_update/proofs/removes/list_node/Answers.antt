@@ -10,7 +10,9 @@ use Rattle.nd_update.specs.Left.{entry, next}
 use Rattle.nd_update.proofs.Building.{looks_do, does_read}
 use Rattle.nd_update.proofs.Removing.{row_still, stay_pinned}
 use Rattle.nd_update.proofs.Listing.{plain_empty, plain_outer, leaf_told, inner_told, room_kids, stays_here, told_here, told_more}
-use Rattle.nd_update.proofs.ListingNode.{looks_twice, looks_work_does, node_begin, node_row, node_small, node_first, node_few, node_links, node_row_there, node_under, node_over}
+use Rattle.nd_update.proofs.Reading.{only_then}
+use Rattle.nd_update.proofs.Opening.{only_at, only_twice, only_kept}
+use Rattle.nd_update.proofs.ListingNode.{looks_twice, looks_work_does, node_begin, node_row, node_only, node_small, node_first, node_few, node_links, node_row_there, node_under, node_over}
 use Rattle.nd_update.proofs.removes.list_node.Goals as goal
 
 pub overflow_cast-row : goal.overflow_cast-row
@@ -40,6 +42,14 @@ returns-then-count-eq0-clause-listed c ns others lists at more =
     stays_here r.shape (pinned_copy (known_of p)) r.rows ns others (work_of p) lists c.args.k row at begin (entry c.args.value.now ns) (next c.args.value.now ns)
     (plain_empty c.args.value.now r.shape (pinned_copy (known_of p)) row ns begin (links ∙ c.if-count-eq0.true)) (work_of c.word-first.new.pass) c.word-first.ensures.work
 
+pub returns-then-count-eq0-clause-only : goal.returns-then-count-eq0-clause-only
+returns-then-count-eq0-clause-only c ns others lists at more =
+    let r = c.args.rows.now in
+    let p = c.args.pass.now in
+    let row = c.work-row.result in
+    let q = c.word-first.new.pass in
+    node_only r p ns others lists c.args.k row at more c.work-row.ensures (known_of p) (known_of q) (only_at r (row ∷ []) p q c.requires.building c.word-first.ensures.looks)
+
 pub sided-side-requires-clause-row : goal.sided-side-requires-clause-row
 sided-side-requires-clause-row c =
     let n = c.requires.node in
@@ -59,6 +69,14 @@ returns-then-is_none-clause-listed c ns others lists at more =
     stays_here r.shape (pinned_copy (known_of p)) r.rows ns others (work_of p) lists c.args.k row at begin (entry c.args.value.now ns) (next c.args.value.now ns)
     (plain_outer c.args.value.now r.shape (pinned_copy (known_of p)) row ns begin under) (work_of c.sided-side.new.pass) (c.sided-side.ensures.work ∙ c.word-first.ensures.work)
 
+pub returns-then-is_none-clause-only : goal.returns-then-is_none-clause-only
+returns-then-is_none-clause-only c ns others lists at more =
+    let r = c.args.rows.now in
+    let p = c.args.pass.now in
+    let row = c.work-row.result in
+    let s = c.sided-side.new.pass in
+    node_only r p ns others lists c.args.k row at more c.work-row.ensures (known_of p) (known_of s) (only_twice r (row ∷ []) p c.word-first.new.pass s c.requires.building c.word-first.ensures.looks c.sided-side.ensures.looks)
+
 pub returns-then-first-eq-LEAF-clause-does : goal.returns-then-first-eq-LEAF-clause-does
 returns-then-first-eq-LEAF-clause-does c =
     let set = c.work_set.ensures in
@@ -77,6 +95,16 @@ returns-then-first-eq-LEAF-clause-listed c ns others lists at more =
     told_here r.shape (pinned_copy (known_of p)) r.rows ns others (work_of p) lists c.args.k row at begin c.told.result (entry c.args.value.now ns) (next c.args.value.now ns)
     (let told = leaf_told c.args.value.now r.shape (pinned_copy (known_of p)) row c.word-first.result ns begin there c.if-count-eq0.false c.if-first-eq-LEAF.true over in (told.0 ∙ sym c.told.ensures, told.1))
     (work_of c.work_set.new.self) (c.work_set.ensures.work ∙ ap (λ ws. set ws c.args.k c.told.result) (c.sided-side.ensures.work ∙ c.word-first.ensures.work))
+
+pub returns-then-first-eq-LEAF-clause-only : goal.returns-then-first-eq-LEAF-clause-only
+returns-then-first-eq-LEAF-clause-only c ns others lists at more =
+    let r = c.args.rows.now in
+    let p = c.args.pass.now in
+    let row = c.work-row.result in
+    let s = c.sided-side.new.pass in
+    let t = c.work_set.new.self in
+    node_only r p ns others lists c.args.k row at more c.work-row.ensures (known_of p) (known_of t)
+    (only_kept (row ∷ []) (known_of p) s t c.work_set.ensures.known (only_twice r (row ∷ []) p c.word-first.new.pass s c.requires.building c.word-first.ensures.looks c.sided-side.ensures.looks))
 
 pub told-requires-2 : goal.told-requires-2
 told-requires-2 c =
@@ -158,3 +186,16 @@ returns-clause-listed c ns others lists at more =
     (let told = inner_told c.args.value.now r.shape (pinned_copy (known_of p)) row c.word-first.result ns begin there c.if-first-eq-LEAF.false over in (told.0 ∙ sym c.told-2.ensures, told.1))
     (work_of c.list_links.new.pass)
     (c.list_links.ensures.work (links_of ns) words links ∙ ap (λ ws. ws ++ links_of ns) (set_are.work ∙ ap (λ ws. set ws c.args.k c.told-2.result) (c.sided-side.ensures.work ∙ c.word-first.ensures.work)))
+
+pub returns-clause-only : goal.returns-clause-only
+returns-clause-only c ns others lists at more =
+    let r = c.args.rows.now in
+    let p = c.args.pass.now in
+    let row = c.work-row.result in
+    let s = c.sided-side.new.pass in
+    let t = c.work_set-2.new.self in
+    let u = c.list_links.new.pass in
+    let set = c.work_set-2.ensures in
+    let does = looks_work_does r p c.word-first.new.pass s t row c.requires.building c.word-first.ensures.looks c.sided-side.ensures.looks set.pass set.number set.known set.marks set.memory in
+    node_only r p ns others lists c.args.k row at more c.work-row.ensures (known_of p) (known_of u)
+    (only_then r [] [] [] (row ∷ []) p t u does (only_kept (row ∷ []) (known_of p) s t set.known (only_twice r (row ∷ []) p c.word-first.new.pass s c.requires.building c.word-first.ensures.looks c.sided-side.ensures.looks)) c.list_links.ensures.only)

@@ -5,6 +5,7 @@ use Rattle.era_rows.specs.Passes.{marked_of}
 use Rattle.nd_rows.specs.Nodes.{rows_with}
 use Rattle.nd_update.specs.Removal.{going}
 use Rattle.nd_update.proofs.Building.{does_as, mark_does}
+use Rattle.nd_update.proofs.Reading.{only_then, only_list}
 use Rattle.nd_update.proofs.Removing.{row_still}
 use Rattle.nd_update.proofs.LeafSteps.{take_all, point, point_drop, point_link, point_there}
 use Rattle.nd_update.proofs.LeafDone.{unmarked_at, marks_more}
@@ -22,6 +23,7 @@ loop-k-init c = (
   λ v b placed is.
       let unmarked : times c.args.row (marked_of c.args.pass.now) ≡ 0 = (let once = c.requires.leaf.4 c.args.row in let head = times-head c.args.row (rows_with c.requires.leaf.2) in omega (arith, once, head)) in
       mark_does c.args.rows.now c.args.pass.now c.mark.new.pass c.args.row c.requires.building c.requires.row unmarked c.mark.ensures.pass c.mark.ensures.same c.mark.ensures.known c.mark.ensures.marked,
+  only_list (c.args.row ∷ []) c.args.pass.now c.mark.new.pass c.mark.ensures.known,
 )
 
 pub mark_link-requires-clause-building : goal.mark_link-requires-clause-building
@@ -65,9 +67,14 @@ loop-k-preserved c = (
       let pt = point r p q c.args.row placed is.points [] marks [] so_far c.loop-k.k low in
       let at = point_drop r p q c.args.row placed is.points [] marks [] so_far c.loop-k.k low in
       marks_more r v c.args.row placed c.loop-k.k pt at c.args.hits.now is.hit p q s so_far (c.mark_link.ensures.does pt.row (point_link r p q c.args.row placed is.points [] marks [] so_far c.loop-k.k low)),
+  let leaf = c.requires.leaf in
+      only_then c.args.rows.now [] (c.args.row ∷ rows_with (going leaf.0 (take c.loop-k.k leaf.2))) [] (c.args.row ∷ []) c.args.pass.now c.loop-k.pass c.mark_link.new.pass (c.loop-k.invariant.1 leaf.0 leaf.1 leaf.2 leaf.3) c.loop-k.invariant.2 c.mark_link.ensures.only,
 )
 
 pub returns-clause-does : goal.returns-clause-does
 returns-clause-does c v b placed is =
     let all = take_all placed c.loop-k.k (let n = is.counted in let l = c.loop-k-test.false in omega (arith, n, l)) in
     does_as c.args.rows.now [] (c.args.row ∷ rows_with (going v (take c.loop-k.k placed))) [] [] (c.args.row ∷ rows_with (going v placed)) [] c.args.pass.now c.loop-k.pass refl (ap (λ ps. c.args.row ∷ rows_with (going v ps)) all) (λ x here. here) (c.loop-k.invariant.1 v b placed is)
+
+pub returns-clause-only : goal.returns-clause-only
+returns-clause-only c = c.loop-k.invariant.2

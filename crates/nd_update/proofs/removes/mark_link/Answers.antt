@@ -4,6 +4,7 @@ use Rattle.era_rows.specs.Known.{pinned_copy}
 use Rattle.era_rows.specs.Passes.{known_of, marked_of}
 use Rattle.nd_update.specs.Building.{Does}
 use Rattle.nd_update.proofs.Building.{read_does, looks_do, mark_does}
+use Rattle.nd_update.proofs.Opening.{only_at, only_kept}
 use Rattle.nd_update.proofs.Removing.{row_still}
 use Rattle.nd_update.proofs.removes.mark_link.Goals as goal
 
@@ -22,3 +23,10 @@ returns-clause-does c x there =
     let mark = mark_does r q s found looks.building here unmarked c.mark.ensures.pass c.mark.ensures.same c.mark.ensures.known c.mark.ensures.marked in
     subst (λ b. Does r [] (if b then x ∷ [] else []) [] p s) (sym c.if-not-hit.false)
     (read_does r [] (x ∷ []) [] p q s looks (subst (λ y. Does r [] (y ∷ []) [] q s) (c.word-link.ensures.word x there) mark))
+
+pub returns-clause-only : goal.returns-clause-only
+returns-clause-only c =
+    let p = c.args.pass.now in
+    let q = c.word-link.new.pass in
+    let s = c.mark.new.pass in
+    only_kept (c.args.row ∷ []) (known_of p) q s c.mark.ensures.known (only_at c.args.rows.now (c.args.row ∷ []) p q c.requires.building c.word-link.ensures.looks)

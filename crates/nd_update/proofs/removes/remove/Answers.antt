@@ -1,9 +1,13 @@
 use Rattle.std.proofs.Common.{[], ◌∷◌, ◌++◌, length, ap, ◌∙◌, arith}
 use Rattle.era_core.specs.Versions.{Copy}
+use Rattle.era_rows.specs.Passes.{known_of}
 use Rattle.nd_rows.specs.Layout.{IsTreeOf}
+use Rattle.nd_update.specs.Needed.{opened}
 use Rattle.nd_update.proofs.Building.{read_does, does_read}
 use Rattle.nd_update.proofs.Lacking.{does_lacks, lacks_work}
 use Rattle.nd_update.proofs.Paying.{paid_still}
+use Rattle.nd_update.proofs.Reading.{only_then, only_list}
+use Rattle.nd_update.proofs.Opening.{only_kept}
 use Rattle.nd_update.proofs.Removing.{does_work, stay_pinned}
 use Rattle.nd_update.proofs.Settling.{map_some, both_some, of_some, pinned_still}
 use Rattle.nd_update.proofs.RemovingAll.{some_rows, root_listed, word_on, is_left, left_still}
@@ -88,7 +92,7 @@ returns c =
     let some = c.settle_all-removed.result in
     let cut = c.work_cut.ensures in
     record {
-      lacks = λ none. lacks_work r p d x (does_lacks r [] [] [] p b d two (settled.lacks (c.all_left-left.ensures.none none))) cut.pass cut.number cut.known cut.memory;
+      lacks = λ none. lacks_work r p d x (does_lacks r [] [] [] p b d two (settled.lacks (c.all_left-left.ensures.none none))) cut.pass cut.number cut.known;
       does = map_some c.all_left-left.result _ _
           (λ l told.
           let more = of_some some l.removed _ told.0 settled.does in
@@ -100,6 +104,12 @@ returns c =
           paid_still r 0 [] [] d x more.2.building (does_work r d x more.2.building cut.pass cut.number cut.known cut.marks cut.memory) (of_some some l.removed _ told.0 settled.paid))
           c.all_left-left.ensures.left;
       work = cut.work;
+      only = λ t is.
+          let lists = root_listed r p a t c.args.root c.requires.building.is_pass is c.requires.root one (push.work ∙ ap (λ ws. ws ++ c.args.root ∷ []) c.requires.idle) in
+          let all = c.list_nodes.ensures.listed t lists in
+          let there = stay_pinned r (λ (y : Copy). IsTreeOf r.shape y t) [] [] [] p b two is in
+          only_kept (opened v t) (known_of p) d x cut.known
+          (only_then r [] [] [] (opened v t) p b d two (only_then r [] [] [] (opened v t) p a b one (only_list (opened v t) p a push.known) (c.list_nodes.ensures.only t lists)) (settled.only t all.0 there all.1));
       left = map_some c.all_left-left.result _ _
           (λ l told t is.
           let lists = root_listed r p a t c.args.root c.requires.building.is_pass is c.requires.root one (push.work ∙ ap (λ ws. ws ++ c.args.root ∷ []) c.requires.idle) in

@@ -1,9 +1,13 @@
 use Rattle.std.proofs.Common.{◌≡◌, ◌+◌, ◌-◌, [], ◌++◌, refl, subst, arith}
+use Rattle.era_rows.specs.Passes.{known_of}
 use Rattle.nd_update.specs.Left.{left, entries}
+use Rattle.nd_update.specs.Needed.{opened}
 use Rattle.nd_update.specs.Sweeps.{Sweeps}
 use Rattle.nd_update.proofs.Building.{does_none, does_both}
 use Rattle.nd_update.proofs.Lacking.{does_lacks}
 use Rattle.nd_update.proofs.Paying.{paid_none}
+use Rattle.nd_update.proofs.Reading.{only_none, only_more, only_then}
+use Rattle.nd_update.proofs.Opening.{opened_left}
 use Rattle.nd_update.proofs.Listing.{length-entries}
 use Rattle.nd_update.proofs.Settling.{pinned_still}
 use Rattle.nd_update.proofs.RemovingAll.{all_length, swept_first, next_settles, removed_few}
@@ -14,6 +18,7 @@ loop-settled-init c = (
   ([], [], does_none c.args.rows.now c.args.pass.now c.requires.building),
   λ t n is all low. swept_first c.args.rows.now c.args.value.now c.args.pass.now c.args.pass.now t n is all c.requires.no_fresh c.requires.no_marks (n - 0) (omega arith),
   paid_none 0 c.args.pass.now c.requires.no_fresh,
+  λ t n is all. only_none (opened c.args.value.now t) (known_of c.args.pass.now),
 )
 
 pub settle-requires-clause-building : goal.settle-requires-clause-building
@@ -87,6 +92,15 @@ loop-settled-preserved c =
           (c.loop-settled.invariant.1 t n is all (omega (arith, low, len, same)))) (length-entries v k t) in
           subst (λ i. Sweeps r v (left v i t) (entries v i t) s (c.loop-settled.removed + c.in_ok-removed.field-0)) (let e : k ≡ n - (c.loop-settled.settled + 1) = omega (arith, low, len, same) in e) swept,
       c.in_ok-removed.ensures.paid,
+      λ t n is all.
+          let low = c.loop-settled-test.true in
+          let len = c.work_len-len.ensures in
+          let same = all_length r v p q t n is all in
+          only_then r so_far.0 so_far.1 so_far.0 (opened v t) p q s so_far.2 (c.loop-settled.invariant.3 t n is all)
+          (only_more (opened v (left v k t)) (opened v t) (known_of q) (known_of s) (opened_left v k t)
+          (c.settle.ensures.only (left v k t) (entries v k t) c.loop-settled.removed
+          (next_settles r v p q t n is all so_far.0 so_far.1 so_far.0 so_far.2 k c.loop-settled.removed (n - c.loop-settled.settled) (omega (arith, low, len, same)) (omega (arith, low, len, same))
+          (c.loop-settled.invariant.1 t n is all (omega (arith, low, len, same)))) (length-entries v k t))),
     )
 
 pub returns-clause-does : goal.returns-clause-does
@@ -109,3 +123,24 @@ returns-clause-paid c = c.loop-settled.invariant.2
 pub returns-in_err-removed-clause-lacks : goal.returns-in_err-removed-clause-lacks
 returns-in_err-removed-clause-lacks c _ =
     let so_far = c.loop-settled.invariant.0 in does_lacks c.args.rows.now so_far.0 so_far.1 so_far.0 c.args.pass.now c.loop-settled.pass c.settle.new.pass so_far.2 (c.in_err-removed.ensures.lacks refl)
+
+pub returns-clause-only : goal.returns-clause-only
+returns-clause-only c t n is all = c.loop-settled.invariant.3 t n is all
+
+pub returns-in_err-removed-clause-only : goal.returns-in_err-removed-clause-only
+returns-in_err-removed-clause-only c t n is all =
+    let r = c.args.rows.now in
+    let v = c.args.value.now in
+    let p = c.args.pass.now in
+    let q = c.loop-settled.pass in
+    let s = c.settle.new.pass in
+    let so_far = c.loop-settled.invariant.0 in
+    let k = c.work_len-len.result - 1 - c.loop-settled.settled in
+    let low = c.loop-settled-test.true in
+    let len = c.work_len-len.ensures in
+    let same = all_length r v p q t n is all in
+    only_then r so_far.0 so_far.1 so_far.0 (opened v t) p q s so_far.2 (c.loop-settled.invariant.3 t n is all)
+    (only_more (opened v (left v k t)) (opened v t) (known_of q) (known_of s) (opened_left v k t)
+    (c.settle.ensures.only (left v k t) (entries v k t) c.loop-settled.removed
+    (next_settles r v p q t n is all so_far.0 so_far.1 so_far.0 so_far.2 k c.loop-settled.removed (n - c.loop-settled.settled) (omega (arith, low, len, same)) (omega (arith, low, len, same))
+    (c.loop-settled.invariant.1 t n is all (omega (arith, low, len, same)))) (length-entries v k t)))

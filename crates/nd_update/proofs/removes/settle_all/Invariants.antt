@@ -6,6 +6,7 @@ use Rattle.nd_rows.specs.Layout.{IsTreeOf}
 use Rattle.nd_update.specs.Building.{Does}
 use Rattle.nd_update.specs.Counted.{IsPaid}
 use Rattle.nd_update.specs.Left.{left, entries, AreAllListed}
+use Rattle.nd_update.specs.Needed.{ReadsOnly, opened}
 use Rattle.nd_update.specs.Sweeps.{Sweeps}
 use Rattle.nd_update.proofs.removes.settle_all.Given as goal
 
@@ -16,3 +17,4 @@ invariant-loop-settled l =
     × ((t : Nodes) (n : ℕ) → IsTreeOf l.rows.shape (pinned_copy (known_of l.fn.pass)) t → AreAllListed l.value t n (work_of l.fn.pass) → l.settled ≤ n
     → Sweeps l.rows l.value (left l.value (n - l.settled) t) (entries l.value (n - l.settled) t) l.pass l.removed)
     × IsPaid 0 (known_of l.pass) (marked_of l.pass)
+    × ((t : Nodes) (n : ℕ) → IsTreeOf l.rows.shape (pinned_copy (known_of l.fn.pass)) t → AreAllListed l.value t n (work_of l.fn.pass) → ReadsOnly (opened l.value t) (known_of l.fn.pass) (known_of l.pass))

@@ -8,6 +8,8 @@ use Rattle.nd_update.specs.Naming.{names_of}
 use Rattle.nd_update.specs.Left.{hits}
 use Rattle.nd_update.proofs.Building.{does_none, read_does, does_read}
 use Rattle.nd_update.proofs.Paying.{still_read, paid_still}
+use Rattle.nd_update.proofs.Reading.{only_list}
+use Rattle.nd_update.proofs.Opening.{only_kept}
 use Rattle.nd_update.proofs.Removing.{does_work, row_still}
 use Rattle.nd_update.proofs.Settled.{node_elsewhere}
 use Rattle.nd_update.proofs.Settling.{settle_does, mark_list_words, node_paid, kids_row, kids_few, kids_boxed, kids_unmarked, kids_marked, kids_length, kids_named, kids_from, kids_place, kids_changed, kids_are_left, inner_unchanged, inner_settled}
@@ -49,6 +51,7 @@ returns-then-not-is_changed c =
       lacks = search rules;
       does = ([], [], all);
       paid = paid_still r 0 [] [] p x building all c.requires.paid;
+      only = only_kept (row ∷ []) (known_of p) y x set_is.known (only_list (row ∷ []) p y cut.known);
       settled = λ v b kids later others removed can at over counted.
           inner_unchanged r p building v others removed row b kids later can over count counted from from_is x all c.args.k c.told.result at
           (sym (kids_changed r p building v others removed row b kids later can over count counted from from_is) ∙ sym c.is_changed.ensures ∙ c.if-not-is_changed.true)
@@ -133,6 +136,9 @@ returns c =
       lacks = search rules;
       does = (taken, row ∷ [], all);
       paid = node_paid r taken row [] taken p x building all (kids_unmarked r p building n.0 n.4 n.5 row n.1 n.2 n.3 n.6 n.8 count n.9) (λ some. still_read r [] (row ∷ []) [] u x left.building rest row (c.in_ok-left.ensures.does.2 some)) c.in_ok-left.ensures.does.1 c.requires.paid;
+      only =
+          only_kept (row ∷ []) (known_of p) y x set_is.known
+          (only_kept (row ∷ []) (known_of p) w y cut.known (only_kept (row ∷ []) (known_of p) u w c.mark.ensures.known c.left_of_inner.ensures.only));
       settled = λ v b kids later others removed can at over counted.
           let hit = sym (kids_changed r p building v others removed row b kids later can over count counted from from_is) ∙ sym c.is_changed.ensures ∙ c.if-not-is_changed.false in
           let named = kids_named r p building v others removed row b kids later can over count counted in
@@ -145,3 +151,6 @@ returns c =
 
 pub returns-in_err-left-clause-lacks : goal.returns-in_err-left-clause-lacks
 returns-in_err-left-clause-lacks c _ = c.in_err-left.ensures.lacks refl
+
+pub returns-in_err-left-clause-only : goal.returns-in_err-left-clause-only
+returns-in_err-left-clause-only c = c.left_of_inner.ensures.only

@@ -1,4 +1,5 @@
 use Rattle.std.proofs.Common.{rules, ◌≡◌, inr, ℕ, zero, suc, ◌/◌, ◌<◌, [], ◌∷◌, set, refl, sym, ap, ◌∙◌, arith}
+use Rattle.era_core.proofs.ListFacts.{in_head}
 use Rattle.era_rows.specs.Known.{known_words}
 use Rattle.era_rows.specs.Passes.{known_of}
 use Rattle.nd_rows.specs.Nodes.{no_nodes, leaf, rows_with}
@@ -7,6 +8,8 @@ use Rattle.nd_update.specs.Left.{hits_in}
 use Rattle.nd_update.proofs.Building.{read_does}
 use Rattle.nd_update.proofs.Lacking.{does_lacks}
 use Rattle.nd_update.proofs.Paying.{still_read, paid_still}
+use Rattle.nd_update.proofs.Reading.{only_then, only_row}
+use Rattle.nd_update.proofs.Opening.{only_kept, looks_leaf}
 use Rattle.nd_update.proofs.Removing.{does_work}
 use Rattle.nd_update.proofs.Sweeping.{hits_are}
 use Rattle.nd_update.proofs.Settled.{node_elsewhere}
@@ -72,6 +75,11 @@ returns-then-hit-eq0 c =
       lacks = search rules;
       does = ([], [], all);
       paid = paid_still r 0 [] [] p x building all c.requires.paid;
+      only = λ b placed later others removed can at nonempty.
+          let n = settle_count r p building v others removed row b placed later can c.read_word.result c.read_word.ensures.word in
+          let rows = row ∷ rows_with placed in
+          only_kept rows (known_of p) s x set_is.known
+          (looks_leaf r p q s row placed one c.read_word.ensures.only (c.dominated-hits.ensures.only placed (still_points r p building v others removed row b placed later can q [] [] one) n));
       settled = λ b placed later others removed can at nonempty.
           let n = settle_count r p building v others removed row b placed later can c.read_word.result c.read_word.ensures.word in
           let hit_is = c.dominated-hits.ensures.hits placed (still_points r p building v others removed row b placed later can q [] [] one) n in
@@ -178,6 +186,13 @@ returns c =
       does = (taken, marks, all);
       paid = node_paid r taken row (rows_with (going v placed)) taken p x building all (settle_unmarked r p building v others removed row b placed later can) (λ _. still_read r taken marks taken q x one.building rest row c.read_word.ensures.read) c.in_ok-left.ensures.does.1
           c.requires.paid;
+      only = λ b placed later others removed can at nonempty.
+          let n = settle_count r p building v others removed row b placed later can c.read_word.result c.read_word.ensures.word in
+          let rows = row ∷ rows_with placed in
+          let first = looks_leaf r p q s row placed one c.read_word.ensures.only (c.dominated-hits.ensures.only placed (still_points r p building v others removed row b placed later can q [] [] one) n) in
+          only_kept rows (known_of p) w x set_is.known
+          (only_then r [] [] [] rows p s w looks first
+          (only_row row rows (known_of s) (known_of w) (in_head row (rows_with placed)) (only_then r taken [] taken (row ∷ []) s u w left c.left_of_leaf.ensures.only c.mark_leaf.ensures.only)));
       settled = λ b placed later others removed can at nonempty.
           let n = settle_count r p building v others removed row b placed later can c.read_word.result c.read_word.ensures.word in
           let hit_is = c.dominated-hits.ensures.hits placed (still_points r p building v others removed row b placed later can q [] [] one) n in
@@ -196,3 +211,20 @@ returns-in_err-left-clause-lacks c _ =
     let p = c.args.pass.now in
     let s = c.dominated-hits.new.pass in
     does_lacks c.args.rows.now [] [] [] p s c.left_of_leaf.new.pass (read_does c.args.rows.now [] [] [] p c.read_word.new.pass s c.read_word.ensures.does c.dominated-hits.ensures.does) (c.in_err-left.ensures.lacks refl)
+
+pub returns-in_err-left-clause-only : goal.returns-in_err-left-clause-only
+returns-in_err-left-clause-only c b placed later others removed can at nonempty =
+    let r = c.args.rows.now in
+    let p = c.args.pass.now in
+    let q = c.read_word.new.pass in
+    let s = c.dominated-hits.new.pass in
+    let u = c.left_of_leaf.new.pass in
+    let v = c.args.value.now in
+    let row = c.args.row in
+    let building = c.requires.building in
+    let one = c.read_word.ensures.does in
+    let n = settle_count r p building v others removed row b placed later can c.read_word.result c.read_word.ensures.word in
+    let rows = row ∷ rows_with placed in
+    only_then r [] [] [] rows p s u (read_does r [] [] [] p q s one c.dominated-hits.ensures.does)
+    (looks_leaf r p q s row placed one c.read_word.ensures.only (c.dominated-hits.ensures.only placed (still_points r p building v others removed row b placed later can q [] [] one) n))
+    (only_row row rows (known_of s) (known_of u) (in_head row (rows_with placed)) c.left_of_leaf.ensures.only)

@@ -1,7 +1,8 @@
-use Rattle.std.proofs.Common.{[], length, refl, sym, ap, ap₂, ◌∙◌}
+use Rattle.std.proofs.Common.{[], ◌∷◌, length, refl, sym, ap, ap₂, ◌∙◌}
 use Rattle.pls_vectors.specs.Box.{box_of, grown}
 use Rattle.nd_update.proofs.Building.{does_both}
 use Rattle.nd_update.proofs.Writing.{value_still, box_of_corners}
+use Rattle.nd_update.proofs.Reading.{only_then}
 use Rattle.nd_update.proofs.words.read_box.Goals as goal
 
 pub read_value-nadir-requires-clause-value : goal.read_value-nadir-requires-clause-value
@@ -26,3 +27,7 @@ returns-clause-boxed c b has le =
     let r = c.args.rows.now in
     let nadir = c.read_value-nadir.ensures.value b.nadir (value_still r c.args.pass.now c.read_value-ideal.new.pass [] c.read_value-ideal.ensures.does r.shape c.args.row 25 b.nadir refl has.nadir) in
     c.grow.ensures.value ∙ ap₂ grown (c.of-range.ensures ∙ ap box_of (c.read_value-ideal.ensures.value b.ideal has.ideal)) nadir ∙ box_of_corners b le
+
+pub returns-clause-only : goal.returns-clause-only
+returns-clause-only c =
+    only_then c.args.rows.now [] [] [] (c.args.row ∷ []) c.args.pass.now c.read_value-ideal.new.pass c.read_value-nadir.new.pass c.read_value-ideal.ensures.does c.read_value-ideal.ensures.only c.read_value-nadir.ensures.only

@@ -1,4 +1,4 @@
-use Rattle.std.proofs.Common.{◌≡◌, ◌^◌, ◌<◌, ◌≤◌, [], length, get_or, pos, refl, sym, ap, subst, ◌∙◌, arith, to_z-of_z, w64, SFits, rules, IsTrue}
+use Rattle.std.proofs.Common.{◌≡◌, ◌^◌, ◌<◌, ◌≤◌, [], ◌∷◌, length, get_or, pos, refl, sym, ap, subst, ◌∙◌, arith, to_z-of_z, w64, SFits, rules, IsTrue}
 use Rattle.std.specs.List.{list_all}
 use Rattle.pls_vectors.specs.Dominance.{is_part}
 use Rattle.pls_vectors.specs.Word.{from_word}
@@ -6,6 +6,7 @@ use Rattle.nd_rows.proofs.Sides.{part_in_range}
 use Rattle.nd_rows.proofs.PointWords.{next_part, word_low, word_back, places_in_range}
 use Rattle.nd_update.proofs.Building.{does_both}
 use Rattle.nd_update.proofs.Writing.{part_still, read_all}
+use Rattle.nd_update.proofs.Reading.{only_then}
 use Rattle.nd_update.proofs.words.read_value.Goals as goal
 
 pub from_word-requires : goal.from_word-requires
@@ -28,6 +29,7 @@ loop-k-preserved c = (
       let is = c.read_word-found.ensures.word _ (part_still c.args.rows.now c.args.pass.now c.loop-k.pass [] c.loop-k.invariant.0 c.args.rows.now.shape c.args.row c.args.place v refl has c.loop-k.k low) in
       next_part c.loop-k.parts v c.loop-k.k _ low few (to_z-of_z fits ∙ c.from_word.ensures.value ∙ ap from_word is ∙ word_back (get_or v c.loop-k.k (pos 0)) (part_in_range _ _ _ _ v has c.loop-k.k low)) (c.loop-k.invariant.2 v has),
   λ some. c.read_word-found.ensures.read,
+  only_then c.args.rows.now [] [] [] (c.args.row ∷ []) c.args.pass.now c.loop-k.pass c.read_word-found.new.pass c.loop-k.invariant.0 c.loop-k.invariant.4 c.read_word-found.ensures.only,
 )
 
 pub from_places-requires-clause-in_range : goal.from_places-requires-clause-in_range
@@ -39,3 +41,6 @@ from_places-requires-clause-in_range c =
 
 pub returns-clause-read : goal.returns-clause-read
 returns-clause-read c some = c.loop-k.invariant.3 (omega (arith, some, c.shape-len.ensures, c.loop-k-test.false))
+
+pub returns-clause-only : goal.returns-clause-only
+returns-clause-only c = c.loop-k.invariant.4

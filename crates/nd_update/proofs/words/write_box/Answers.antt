@@ -1,8 +1,9 @@
-use Rattle.std.proofs.Common.{length, inl, inr, ap, ◌∙◌, arith}
+use Rattle.std.proofs.Common.{[], ◌∷◌, length, inl, inr, ap, ◌∙◌, arith}
 use Rattle.era_rows.specs.Known.{known_words}
 use Rattle.era_rows.specs.Passes.{known_of}
 use Rattle.nd_update.proofs.Building.{value_outside, writes_both}
 use Rattle.nd_update.proofs.Writing.{value_as}
+use Rattle.nd_update.proofs.Reading.{only_then}
 use Rattle.nd_update.proofs.words.write_box.Goals as goal
 
 pub returns-clause-boxed : goal.returns-clause-boxed
@@ -19,3 +20,6 @@ returns-clause-boxed c =
 
 pub returns-clause-does : goal.returns-clause-does
 returns-clause-does c = writes_both c.args.rows.now c.args.row c.args.pass.now c.write_value.new.pass c.write_value-2.new.pass c.write_value.ensures.does c.write_value-2.ensures.does
+
+pub returns-clause-only : goal.returns-clause-only
+returns-clause-only c = only_then c.args.rows.now [] [] (c.args.row ∷ []) [] c.args.pass.now c.write_value.new.pass c.write_value-2.new.pass c.write_value.ensures.does c.write_value.ensures.only c.write_value-2.ensures.only
