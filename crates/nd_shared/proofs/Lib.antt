@@ -10,4 +10,3 @@ pub mod Trying
 pub mod Starting
 pub mod Waiting
 pub mod Room
-pub mod Keeping

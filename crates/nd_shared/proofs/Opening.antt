@@ -3,7 +3,7 @@ use Rattle.std.proofs.Common.{◌≡◌, ℕ, ◌<◌, List, length, sym, ap, su
 use Rattle.era_core.specs.declared.sizes.TheConstants.{ROOT_ROWS}
 use Rattle.era_core.proofs.Publishes.{root_word-version}
 use Rattle.era_rows.specs.Known.{Known}
-use Rattle.era_rows.specs.Passes.{known_of, knows_of, seen_of, lists_of, HasSame}
+use Rattle.era_rows.specs.Passes.{known_of, knows_of, seen_of, lists_of}
 use Rattle.era_rows.specs.declared.views.Knows.{Knows}
 use Rattle.era_rows.specs.declared.pass.Pass.{Pass}
 use Rattle.era_rows.specs.declared.rows.Rows.{Rows}
@@ -11,7 +11,7 @@ use Rattle.era_rows.specs.declared.law.Law.{Ghosts}
 use Rattle.pls_archive.specs.declared.call.Entry.{Entry}
 use Rattle.pls_archive.specs.Reply.{nondominated}
 use Rattle.pls_archive.specs.View.{View, IsConsistent}
-use Rattle.nd_rows.specs.Reads.{HasPinnedTree, ReadsIn}
+use Rattle.nd_rows.specs.Reads.{HasKept, HasPinnedTree, ReadsIn}
 use Rattle.nd_update.specs.Resting.{IsOpen}
 use Rattle.nd_shared.specs.Views.{AreListed, IsReady, Opens, Pins, view_with, own_of, others_of}
 use Rattle.nd_shared.proofs.Consistent.{consistent_view}
@@ -61,11 +61,11 @@ module _ {L : Type 0} {G : Ghosts L Entry} (r : Rows L Entry) where
   }
 
   -- and so it is after a look at rows of the version
-  pub asked : (n : ℕ) (rows : List ℕ) (p q s : Pass L Entry G) → Opens r n p q → HasPinnedTree r n s → HasSame q s → ReadsIn rows (known_of q) (known_of s) → Opens r n p s
-  asked n rows p q s opens tree same reads =
+  pub asked : (n : ℕ) (rows : List ℕ) (p q s : Pass L Entry G) → Opens r n p q → HasPinnedTree r n s → HasKept q s → ReadsIn rows (known_of q) (known_of s) → Opens r n p s
+  asked n rows p q s opens tree kept reads =
       still_opens n p q s opens (record {
         tree = tree;
         no_fresh = ap (λ (k : Known). k.core.fresh) reads.now ∙ opens.opened.no_fresh;
-        no_marks = same.same_marks ∙ opens.opened.no_marks;
-        idle = same.same_pass.same_work ∙ opens.opened.idle;
-      }) same.same_pass.same_number same.same_seen same.same_lists (ap (λ (k : Known). k.full) reads.now)
+        no_marks = kept.same_marks ∙ opens.opened.no_marks;
+        idle = kept.same_work ∙ opens.opened.idle;
+      }) kept.same_number kept.same_seen kept.same_lists (ap (λ (k : Known). k.full) reads.now)

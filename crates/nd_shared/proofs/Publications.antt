@@ -12,7 +12,9 @@ use Rattle.era_rows.specs.declared.rows.Rows.{Rows}
 use Rattle.era_rows.specs.declared.law.Law.{Ghosts}
 use Rattle.era_rows.specs.declared.refusal.PublishRefusal.{PublishRefusal}
 use Rattle.era_rows.specs.declared.refusal.PublishRefusal.TheVariants.{Beaten, Spent}
-use Rattle.era_one_row.proofs.Finishing.{Ends, still_pinned, lists_left}
+use Rattle.era_one_row.specs.Ready.{HasPinned, IsBeaten}
+use Rattle.era_one_row.proofs.Finishing.{Ends, still_pinned, lists_left, is_beaten, goes_on, pin_is_same}
+use Rattle.era_one_row.proofs.GoingOn.{begins_twice, pin_stays}
 use Rattle.pls_archive.specs.declared.call.Call.TheVariants.{Update}
 use Rattle.pls_archive.specs.declared.call.Reply.TheVariants.{Added}
 use Rattle.pls_archive.specs.declared.call.Entry.{Entry}
@@ -66,8 +68,18 @@ module _ {L : Type 0} {G : Ghosts L Entry} (r : Rows L Entry) (n : ℕ) (point :
   pub short : (answer : Result ℕ PublishRefusal) → IsPassOf r s → Ended answer → HasEvidence (known_of s)
   short answer is_pass done = evidence_kept r q s builds.is_pass is_pass (same_full answer done) builds.short
 
-  pub beaten : (v : ℕ) → Ended (Err (Beaten v)) → v ≡ length (seen_of s)
-  beaten v done = done.1.1 ∙ sym done.1.2.2.learns.seen_all
+  -- the version that is current is later than the one that was pinned since b, also for a pass that found more since
+  pub beaten : (v : ℕ) → Ended (Err (Beaten v)) → (b u : Pass L Entry G) → HasPinned n (known_of b) (known_of q) → seen_of u ≡ seen_of s → IsPrefix (known_of s).looks (known_of u).looks → (known_of u).since ≡ (known_of s).since
+      → IsBeaten v b u
+  beaten v done b u pinned_since seen looked since =
+      let late = is_beaten _ _ _ _ _ _ n builds.publishable.root built.root entry (knows_of q) (knows_of s) (Err (Beaten v)) done builds.publishable.may.pinned v refl in
+      let goes = goes_on _ _ _ _ _ _ n builds.publishable.root built.root entry (knows_of q) (knows_of s) (Err (Beaten v)) done in
+      record {
+        current = late.1 ∙ ap length (sym seen);
+        pin = n;
+        pinned = pin_stays n (known_of b) (known_of q) (known_of u) pinned_since (begins_twice (known_of q).looks (known_of s).looks (known_of u).looks goes.looked looked) (since ∙ pin_is_same _ _ _ _ _ _ n builds.publishable.root built.root entry (knows_of q) (knows_of s) (Err (Beaten v)) done);
+        later = late.0;
+      }
 
   -- the version was the last of all, and the point is one that would be brought in
   pub spent : Ended (Err Spent) → (length (seen_of s) ≡ LAST_VERSION) × (is_accepting (Update point) (nondominated (submissions (seen_of s)) (Update point)) ≡ true)

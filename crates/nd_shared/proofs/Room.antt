@@ -1,5 +1,5 @@
 -- How much room a pass that is alone needs.
-use Rattle.std.proofs.Common.{◌≡◌, ℕ, suc, ◌+◌, ◌-◌, ◌*◌, ◌/◌, ◌==◌, ◌<◌, ◌≤◌, Bool, true, false, if◌then◌else◌, Some, List, [], ◌∷◌, ◌++◌, length, take, refl, sym, ap, ◌∙◌, arith, length-append, length-take}
+use Rattle.std.proofs.Common.{◌≡◌, ℕ, suc, ◌+◌, ◌-◌, ◌*◌, ◌/◌, ◌==◌, ◌<◌, ◌≤◌, Bool, true, false, if◌then◌else◌, List, [], ◌∷◌, ◌++◌, length, take, refl, sym, ap, ◌∙◌, arith, length-append, length-take}
 use Rattle.std.proofs.lemmas.Bool.{true≢false, eqb-true}
 use Rattle.era_rows.specs.Known.{Known, pinned_copy}
 use Rattle.era_rows.specs.Passes.{known_of, seen_of}
@@ -13,7 +13,7 @@ use Rattle.pls_archive.specs.declared.call.Reply.{Reply}
 use Rattle.pls_archive.specs.declared.call.Reply.TheVariants.{Added, Refused, Yes, No, Points}
 use Rattle.pls_archive.specs.declared.point.Point.{Point}
 use Rattle.pls_archive.specs.History.{submissions, accepted, accepts}
-use Rattle.pls_archive.specs.Lists.{AsOften, Every, how_many}
+use Rattle.pls_archive.specs.Lists.{Every, how_many}
 use Rattle.pls_archive.specs.Reply.{members, point_weakly_dominates}
 use Rattle.pls_archive.specs.Rule.{submitted_by, accepted_by, is_accepting}
 use Rattle.pls_vectors.specs.Archive.{members_among, belongs}

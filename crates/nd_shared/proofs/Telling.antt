@@ -1,9 +1,9 @@
 -- What a call of the shared tree is to the view of its pass.
-use Rattle.std.proofs.Common.{◌≡◌, ℕ, ◌+◌, true, false, [], ◌∷◌, ◌++◌, length, refl, sym, ap, subst, ◌∙◌}
+use Rattle.std.proofs.Common.{◌≡◌, ℕ, ◌+◌, true, false, Some, [], ◌∷◌, ◌++◌, length, refl, sym, ap, subst, ◌∙◌}
 use Rattle.era_rows.specs.Lists.{add_entry}
 use Rattle.era_rows.specs.Known.{Known, leaving}
-use Rattle.era_rows.specs.Passes.{known_of, knows_of, seen_of, lists_of, marked_of, work_of, IsPassOf}
-use Rattle.era_rows.specs.Plays.{IsConsistent as AllConsistent}
+use Rattle.era_rows.specs.Passes.{known_of, knows_of, seen_of, lists_of, marked_of, work_of, IsPassOf, IsSamePass}
+use Rattle.era_rows.specs.Plays.{IsConsistent as AllConsistent, having_left}
 use Rattle.era_rows.specs.declared.views.Knows.{Knows}
 use Rattle.era_rows.specs.declared.pass.Pass.{Pass}
 use Rattle.era_rows.specs.declared.rows.Rows.{Rows}
@@ -19,8 +19,8 @@ use Rattle.pls_archive.specs.SharedCalls.{Answers, IsRefused}
 use Rattle.pls_archive.specs.View.{IsConsistent, ObservesMore}
 use Rattle.nd_rows.specs.Entries.{IsRight}
 use Rattle.nd_rows.specs.Layout.{IsLawful, StandsFor}
-use Rattle.nd_shared.specs.Views.{AreListed, HasEvidence, IsReady, view_of, view_with}
-use Rattle.nd_shared.proofs.Consistent.{listed_added, entry_of, answers_told, answers_added, refused}
+use Rattle.nd_shared.specs.Views.{AreListed, HasEvidence, IsReady, Opens, view_of, view_with}
+use Rattle.nd_shared.proofs.Consistent.{consistent_view, listed_added, entry_of, answers_told, answers_added, refused}
 use Rattle.nd_shared.proofs.Recorded.{evidence_kept}
 
 -- consistent, as the rows have it, under the law of ND-trees
@@ -87,3 +87,21 @@ module _ {L : Type 0} {G : Ghosts L Entry} (r : Rows L Entry) where
       short = evidence_kept r p q before after (ap (λ (k : Known). k.full) left) short;
     };
   }
+
+-- a pass that leaves version n with the entry of a call that brought nothing in
+module _ {L : Type 0} {G : Ghosts L Entry} (r : Rows L Entry) (n : ℕ) (p q s : Pass L Entry G) (opens : Opens r n p q) (is_pass : IsPassOf r s) (same_pass : IsSamePass q s)
+    (m : ℕ) (mine : m ≡ q.number) (call : Call) (answer : Reply) (left : knows_of s ≡ having_left (λ (e : Entry). e.caller) (Some (named m n call answer)) (knows_of q)) where
+  adds : lists_of s ≡ add_entry m (named m n call answer) (lists_of q)
+  adds = ap (λ (k : Knows Entry). k.lists) left
+
+  listed : AreListed s.number (lists_of s)
+  listed = lists_told r p q s opens.observes_more same_pass.same_number m n call answer mine opens.listed adds
+
+  pub told_ready : marked_of s ≡ [] → IsReady r s
+  told_ready marks =
+      ready_left r q s opens.opened.tree.is_pass is_pass (ap (λ (k : Knows Entry). k.view) left) opens.opened.no_fresh marks (same_pass.same_work ∙ opens.opened.idle) listed opens.short
+
+  pub told_answers : answer ≡ nondominated (submissions (seen_of q)) call → is_accepting call answer ≡ false → IsSound (knows_of s) → Answers nondominated r.passes (view_of p) call answer n (view_of s)
+  told_answers due nothing sound =
+      told r p q s opens.observes_more same_pass.same_number m n call answer mine opens.listed adds due opens.all nothing (ap (λ (k : Knows Entry). k.seen) left)
+      (consistent_view r.passes s.number (knows_of s) is_pass.sized.passes_are listed sound)

@@ -11,6 +11,7 @@ ghost use Rattle.pls_archive.specs.Reply.{nondominated};
 ghost use Rattle.pls_archive.specs.Rule.{is_accepting};
 ghost use Rattle.pls_archive.specs.View.{IsConsistent};
 ghost use Rattle.pls_archive.specs.SharedCalls.{Answers, IsRefused};
+ghost use Rattle.era_one_row.specs.Ready.{HasPinned};
 ghost use Rattle.nd_rows.specs.Entries.{HasParts};
 ghost use Rattle.nd_update.specs.Counted.{IsCounted};
 ghost use Rattle.nd_update.specs.Resting.{IsOpen};
@@ -62,7 +63,7 @@ impl Tree {
         ensures low { result ≤ LAST_VERSION }
         ensures counted { IsCounted (known_of pass.new) (marked_of pass.new) }
         ensures copies { length (known_of pass.new).copies ≡ result + 1 }
-        ensures later { length (known_of pass.old).looks ≤ (known_of pass.new).since }
+        ensures pinned { HasPinned result (known_of pass.old) (known_of pass.new) }
         ensures full { (known_of pass.new).full ≡ (known_of pass.old).full }
     {
         self.pin(pass).0

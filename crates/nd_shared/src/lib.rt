@@ -3,8 +3,8 @@
 
 mod builds;
 mod calls;
+mod frees;
 mod joins;
-mod keeps;
 mod refusal;
 mod shared_calls;
 #[cfg(test)]

@@ -46,7 +46,7 @@ impl Shared for Tree {
     ) -> Result<(Taken, u64), Refusal> {
         let point = &point;
         for _ in rt.forever() {
-            match self.try_update(pass, *point) {
+            match self.try_point(pass, point) {
                 Ok(answer) => return Ok(answer),
                 Err(TryRefusal::Beaten(_)) => {}
                 Err(TryRefusal::Full) => return Err(Refusal::Full),

@@ -1,6 +1,6 @@
-//! A shared tree of one caller.
-ghost use Rattle.std.specs.Prelude.{◌≡◌, ◌≤◌, IfOk, length};
-ghost use Rattle.era_core.specs.declared.sizes.TheConstants.{MOST_ROWS};
+//! A shared tree of one caller; and of several, in the modules.
+ghost use Rattle.std.specs.Prelude.{◌≡◌, ◌≤◌, All, IfOk, IfSome, length};
+ghost use Rattle.era_core.specs.declared.sizes.TheConstants.{MOST_ROWS, MOST_PASSES};
 ghost use Rattle.era_rows.specs.declared.sizes.TheConstants.{LEAST_ROWS};
 ghost use Rattle.nd_shared.specs.Views.{IsReady};
 
@@ -10,6 +10,9 @@ use pls_vectors::{Sol, Vector};
 use std::alloc::{AllocError, Global};
 
 mod beside_plain;
+mod few_rows;
+mod four_threads;
+mod generated;
 mod two_passes;
 
 // An archive in so many rows, for vectors of so many parts, with one pass.
@@ -22,6 +25,33 @@ fn start(alloc: Global, objectives: u8, rows: u32) -> Result<(Tree, TreePass), A
     let (tree, mut passes) = Tree::start(alloc, objectives, rows, 1)?;
     let pass = passes.remove(0);
     Ok((tree, pass))
+}
+
+// An archive in so many rows, for vectors of so many parts, with so many passes.
+fn start_many(
+    alloc: Global,
+    objectives: u8,
+    rows: u32,
+    passes: u32,
+) -> Result<(Tree, Vec<TreePass>), AllocError>
+    requires objectives { (2 ≤ objectives) × (objectives ≤ 4) }
+    requires rows { (LEAST_ROWS ≤ rows) × (rows ≤ MOST_ROWS) }
+    requires passes { (1 ≤ passes) × (passes ≤ MOST_PASSES) }
+    ensures ready { IfOk result (λ t. All (IsReady t.0.rows) t.1.items) }
+    ensures parts { IfOk result (λ t. t.0.rows.shape ≡ objectives) }
+{
+    let (tree, passes) = Tree::start(alloc, objectives, rows, passes)?;
+    Ok((tree, passes))
+}
+
+// Takes the last of the passes.
+fn take_last(tree: &Tree, passes: &mut Vec<TreePass>) -> Option<TreePass>
+    requires { All (IsReady tree.now.rows) passes.old.items }
+    ensures others { All (IsReady tree.now.rows) passes.new.items }
+    ensures pass { IfSome result (IsReady tree.now.rows) }
+{
+    let _ = tree;
+    passes.pop()
 }
 
 fn value(a: u8, b: u8) -> Vector

@@ -1,23 +1,27 @@
 //! Updates of the shared tree.
 ghost use Rattle.std.specs.Prelude.{◌≡◌, ◌≢◌, ℕ, ◌+◌, ◌*◌, ◌<◌, ◌≤◌, true, Err, IfOk, OnOk, OnErr, length};
 ghost use Rattle.era_core.specs.declared.sizes.TheConstants.{LAST_VERSION};
-ghost use Rattle.era_rows.specs.Passes.{known_of, seen_of};
+ghost use Rattle.era_rows.specs.Passes.{known_of, knows_of, seen_of};
+ghost use Rattle.era_one_row.specs.Ready.{HasPinned, IsBeaten};
 ghost use Rattle.pls_archive.specs.declared.call.Call.TheVariants.{Update};
+ghost use Rattle.pls_archive.specs.declared.call.Reply.TheVariants.{Refused};
 ghost use Rattle.pls_archive.specs.Archives.{reply_of};
 ghost use Rattle.pls_archive.specs.History.{submissions};
 ghost use Rattle.pls_archive.specs.Reply.{nondominated};
 ghost use Rattle.pls_archive.specs.Rule.{is_accepting};
 ghost use Rattle.pls_archive.specs.SharedCalls.{Answers, IsRefused};
 ghost use Rattle.nd_update.specs.Counted.{IsShort};
-ghost use Rattle.nd_shared.specs.Views.{IsReady, BuildsAt, FewWait, view_of};
+ghost use Rattle.nd_shared.specs.Views.{IsReady, BuildsAt, FewWait, Opens, view_of};
 ghost use Rattle.nd_shared.specs.declared.refusal.TryRefusal.TheVariants.{Full, Spent, Beaten};
 
 use crate::refusal::TryRefusal;
+use crate::told::Refuses;
 use crate::tree::{Tree, TreePass};
 use era_rows::PublishRefusal;
 use nd_rows::Adds;
 use nd_update::{BuildRefusal, Built, give_all_back};
-use pls_archive::{Call, Point, Reply, Taken};
+use pls_archive::{Point, Taken};
+use std::snapshot;
 
 impl Tree {
     // Publishes the tree that was built, with the entry of its point, and leaves the version.
@@ -39,7 +43,7 @@ impl Tree {
         ensures refused { OnErr result ((p : _) → BuildsAt self.now.rows stamp point.now built p pass.old → IsRefused nondominated self.now.rows.passes (view_of p) (view_of pass.new)) }
         ensures full { (result ≢ Err Full) × ((known_of pass.new).full ≡ (known_of pass.old).full) }
         ensures spent { result ≡ Err Spent → (length (seen_of pass.new) ≡ LAST_VERSION) × (is_accepting (Update point.now) (nondominated (submissions (seen_of pass.new)) (Update point.now)) ≡ true) }
-        ensures beaten { (v : ℕ) → result ≡ Err (Beaten v) → v ≡ length (seen_of pass.new) }
+        ensures beaten { (v : ℕ) → result ≡ Err (Beaten v) → (p : _) → HasPinned stamp (known_of p) (known_of pass.old) → IsBeaten v p pass.new }
     {
         let adds = Adds {
             caller: self.rows.number(pass),
@@ -50,7 +54,7 @@ impl Tree {
         match self.rows.publish(pass, built.root, &adds) {
             Ok(version) => {
                 self.leave(pass);
-                self.keep(pass, version, &point.value);
+                self.free_many(pass);
                 let removed = built.removed;
                 Ok((Taken::Added { removed }, version))
             }
@@ -65,14 +69,64 @@ impl Tree {
         }
     }
 
+    // Leaves the pinned version with the entry of an update that was refused.
+    fn refuse(&self, pass: &mut TreePass, stamp: u64, point: &Point)
+        requires opened { (p : _) × Opens self.now.rows stamp p pass.old }
+        requires parts { length point.now.value ≡ self.now.rows.shape }
+        requires due { Refused ≡ nondominated (submissions (knows_of pass.old).seen) (Update point.now) }
+        ensures ready { IsReady self.now.rows pass.new }
+        ensures answers { (p : _) → Opens self.now.rows stamp p pass.old → Answers nondominated self.now.rows.passes (view_of p) (Update point.now) Refused stamp (view_of pass.new) }
+        ensures full { (known_of pass.new).full ≡ (known_of pass.old).full }
+    {
+        let refuses = Refuses {
+            caller: self.rows.number(pass),
+            stamp,
+            point: snapshot::Snapshot::of(point),
+        };
+        self.rows.unpin(pass, &refuses);
+    }
+
+    // Submits a point, unless another update is published meanwhile.
+    pub(crate) fn try_point(
+        &self,
+        pass: &mut TreePass,
+        point: &Point,
+    ) -> Result<(Taken, u64), TryRefusal>
+        requires ready { IsReady self.now.rows pass.old }
+        requires parts { length point.now.value ≡ self.now.rows.shape }
+        ensures ready { IsReady self.now.rows pass.new }
+        ensures answers { IfOk result (λ a. Answers nondominated self.now.rows.passes (view_of pass.old) (Update point.now) (reply_of a.0) a.1 (view_of pass.new)) }
+        ensures low { IfOk result (λ a. a.1 ≤ LAST_VERSION) }
+        ensures waits { IfOk result (λ a. is_accepting (Update point.now) (reply_of a.0) ≡ true → FewWait self.now.rows.rows self.now.rows.passes (known_of pass.new)) }
+        ensures refused { OnErr result (IsRefused nondominated self.now.rows.passes (view_of pass.old) (view_of pass.new)) }
+        ensures full { result ≡ Err Full → IsShort (known_of pass.new) × (length (known_of pass.old).looks ≤ (known_of pass.new).since) }
+        ensures room { result ≡ Err Full → self.now.rows.passes ≡ 1 → self.now.rows.rows < 8 * (length (seen_of pass.new) + 1) + 64 }
+        ensures same_full { result ≢ Err Full → (known_of pass.new).full ≡ (known_of pass.old).full }
+        ensures spent { result ≡ Err Spent → (length (seen_of pass.new) ≡ LAST_VERSION) × (is_accepting (Update point.now) (nondominated (submissions (seen_of pass.new)) (Update point.now)) ≡ true) }
+        ensures beaten { (v : ℕ) → result ≡ Err (Beaten v) → IsBeaten v pass.old pass.new }
+    {
+        let stamp = self.open(pass);
+        match self.try_build(pass, point) {
+            Ok(built) => self.publish(pass, stamp, point, built),
+            Err(BuildRefusal::Covered) => {
+                self.refuse(pass, stamp, point);
+                Ok((Taken::Refused, stamp))
+            }
+            Err(BuildRefusal::Full) => {
+                self.leave(pass);
+                Err(TryRefusal::Full)
+            }
+        }
+    }
+
     /// Submits a point, unless another update is published meanwhile.
     ///
     /// # Errors
     ///
     /// `Full` only where this call found an owner of each row after it freed what no other pass may read, of which the pass keeps an
     /// evidence, and where there is one pass alone not while there are 64 rows and eight for each point that was added and for this one;
-    /// `Spent` where the pinned version is the last of all; and `Beaten` where another version was published meanwhile. A
-    /// point that a member covers is answered with `Refused`.
+    /// `Spent` where the pinned version is the last of all; and `Beaten` with the current version where that is later than the one that
+    /// this call pinned. A point that a member covers is answered with `Refused`.
     pub fn try_update(&self, pass: &mut TreePass, point: Point) -> Result<(Taken, u64), TryRefusal>
         requires ready { IsReady self.now.rows pass.old }
         requires parts { length point.value ≡ self.now.rows.shape }
@@ -85,20 +139,8 @@ impl Tree {
         ensures room { result ≡ Err Full → self.now.rows.passes ≡ 1 → self.now.rows.rows < 8 * (length (seen_of pass.new) + 1) + 64 }
         ensures same_full { result ≢ Err Full → (known_of pass.new).full ≡ (known_of pass.old).full }
         ensures spent { result ≡ Err Spent → (length (seen_of pass.new) ≡ LAST_VERSION) × (is_accepting (Update point) (nondominated (submissions (seen_of pass.new)) (Update point)) ≡ true) }
-        ensures beaten { (v : ℕ) → result ≡ Err (Beaten v) → v ≡ length (seen_of pass.new) }
+        ensures beaten { (v : ℕ) → result ≡ Err (Beaten v) → IsBeaten v pass.old pass.new }
     {
-        let point = &point;
-        let stamp = self.open(pass);
-        match self.try_build(pass, point) {
-            Ok(built) => self.publish(pass, stamp, point, built),
-            Err(BuildRefusal::Covered) => {
-                self.tell(pass, stamp, &Call::Update(*point), &Reply::Refused);
-                Ok((Taken::Refused, stamp))
-            }
-            Err(BuildRefusal::Full) => {
-                self.leave(pass);
-                Err(TryRefusal::Full)
-            }
-        }
+        self.try_point(pass, &point)
     }
 }

@@ -11,7 +11,7 @@ tell-requires-clause-opened c =
     let opens = c.open-stamp.ensures.opens in
     let ask = c.covered-yes.ensures in (
       c.args.pass.now,
-      asked c.args.self.now.rows c.open-stamp.result _ c.args.pass.now c.open-stamp.new.pass c.covered-yes.new.pass opens (ask.tree c.open-stamp.result opens.opened.tree) ask.same ask.reads.2,
+      asked c.args.self.now.rows c.open-stamp.result _ c.args.pass.now c.open-stamp.new.pass c.covered-yes.new.pass opens (ask.tree c.open-stamp.result opens.opened.tree) ask.kept ask.reads.2,
     )
 
 pub returns-clause-answers : goal.returns-clause-answers
@@ -20,4 +20,4 @@ returns-clause-answers c =
     let ask = c.covered-yes.ensures in
     subst (λ x. Answers nondominated c.args.self.now.rows.passes (view_of c.args.pass.now) (Covered c.args.value) x c.open-stamp.result (view_of c.tell.new.pass)) c.reply.ensures
     (c.tell.ensures.answers c.args.pass.now
-    (asked c.args.self.now.rows c.open-stamp.result _ c.args.pass.now c.open-stamp.new.pass c.covered-yes.new.pass opens (ask.tree c.open-stamp.result opens.opened.tree) ask.same ask.reads.2))
+    (asked c.args.self.now.rows c.open-stamp.result _ c.args.pass.now c.open-stamp.new.pass c.covered-yes.new.pass opens (ask.tree c.open-stamp.result opens.opened.tree) ask.kept ask.reads.2))

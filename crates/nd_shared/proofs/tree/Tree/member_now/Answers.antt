@@ -2,6 +2,7 @@ use Rattle.std.proofs.Common.{subst}
 use Rattle.pls_archive.specs.declared.call.Call.TheVariants.{Member}
 use Rattle.pls_archive.specs.Reply.{nondominated}
 use Rattle.pls_archive.specs.SharedCalls.{Answers}
+use Rattle.nd_rows.proofs.FoundPoints.{kept_same}
 use Rattle.nd_shared.specs.Views.{view_of}
 use Rattle.nd_shared.proofs.Opening.{asked}
 use Rattle.nd_shared.proofs.tree.Tree.member_now.Goals as goal
@@ -11,7 +12,7 @@ tell-requires-clause-opened c =
     let opens = c.open-stamp.ensures.opens in
     let ask = c.member-yes.ensures in (
       c.args.pass.now,
-      asked c.args.self.now.rows c.open-stamp.result _ c.args.pass.now c.open-stamp.new.pass c.member-yes.new.pass opens (ask.tree c.open-stamp.result opens.opened.tree) ask.same ask.reads.2,
+      asked c.args.self.now.rows c.open-stamp.result _ c.args.pass.now c.open-stamp.new.pass c.member-yes.new.pass opens (ask.tree c.open-stamp.result opens.opened.tree) (kept_same c.open-stamp.new.pass c.member-yes.new.pass ask.same) ask.reads.2,
     )
 
 pub returns-clause-answers : goal.returns-clause-answers
@@ -20,4 +21,4 @@ returns-clause-answers c =
     let ask = c.member-yes.ensures in
     subst (λ x. Answers nondominated c.args.self.now.rows.passes (view_of c.args.pass.now) (Member c.args.value) x c.open-stamp.result (view_of c.tell.new.pass)) c.reply.ensures
     (c.tell.ensures.answers c.args.pass.now
-    (asked c.args.self.now.rows c.open-stamp.result _ c.args.pass.now c.open-stamp.new.pass c.member-yes.new.pass opens (ask.tree c.open-stamp.result opens.opened.tree) ask.same ask.reads.2))
+    (asked c.args.self.now.rows c.open-stamp.result _ c.args.pass.now c.open-stamp.new.pass c.member-yes.new.pass opens (ask.tree c.open-stamp.result opens.opened.tree) (kept_same c.open-stamp.new.pass c.member-yes.new.pass ask.same) ask.reads.2))

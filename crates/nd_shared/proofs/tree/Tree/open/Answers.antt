@@ -1,4 +1,5 @@
 use Rattle.std.proofs.Common.{◌+◌, ap, ◌∙◌}
+use Rattle.era_one_row.proofs.GoingOn.{pin_was_now}
 use Rattle.nd_shared.proofs.Opening.{opens}
 use Rattle.nd_shared.proofs.tree.Tree.open.Goals as goal
 
@@ -9,3 +10,6 @@ pub returns-clause-copies : goal.returns-clause-copies
 returns-clause-copies c =
     let is = opens c.args.self.now.rows c.pin.result.0 c.pin.result.1 c.args.pass.now c.pin.new.pass c.pin.ensures.small.1 c.requires.ready c.pin.ensures.opened c.pin.ensures.number c.pin.ensures.pins in
     c.pin.ensures.pins.1.learns.consistent.paired ∙ ap (λ n. n + 1) is.all
+
+pub returns-clause-pinned : goal.returns-clause-pinned
+returns-clause-pinned c = pin_was_now _ _ _ _ _ _ c.pin.result.0 c.pin.result.1 c.pin.ensures.small.1 _ _ c.pin.ensures.pins

@@ -2,6 +2,9 @@ use Rattle.std.proofs.Common.{◌≡◌, ◌+◌, true, refl, sym, subst, ap, �
 use Rattle.std.specs.Prelude.{Err}
 use Rattle.era_core.specs.declared.sizes.TheConstants.{LAST_VERSION}
 use Rattle.era_rows.specs.Known.{Known}
+use Rattle.era_rows.specs.Lists.{IsPrefix}
+use Rattle.era_rows.specs.Passes.{known_of}
+use Rattle.era_one_row.specs.Ready.{IsBeaten}
 use Rattle.pls_archive.specs.declared.call.Call.TheVariants.{Update}
 use Rattle.pls_archive.specs.declared.call.Reply.TheVariants.{Added}
 use Rattle.pls_archive.specs.History.{submissions}
@@ -13,7 +16,6 @@ use Rattle.nd_shared.specs.Views.{BuildsAt, view_of}
 use Rattle.nd_shared.proofs.Opening.{still_listed}
 use Rattle.nd_shared.proofs.Recorded.{evidence_kept}
 use Rattle.nd_shared.proofs.Publications.{Ended, pinned, no_fresh, listed, answers, lists_same, refused, same_full, short, low, beaten, spent}
-use Rattle.nd_shared.proofs.Keeping.{submitted_last}
 use Rattle.nd_shared.proofs.Refusals.{not_full, same_version}
 use Rattle.nd_shared.proofs.tree.Tree.publish.Goals as goal
 use Rattle.nd_shared.proofs.tree.Tree.publish.Goals.{After-publish}
@@ -49,16 +51,8 @@ leave-requires-in-Err-clause-short c =
 
 pub returns-in-Ok-clause-answers : goal.returns-in-Ok-clause-answers
 returns-in-Ok-clause-answers c p builds =
-    subst (Answers nondominated c.args.self.now.rows.passes (view_of p) (Update c.args.point.now) (Added c.args.built.removed) c.in-Ok.version) (sym c.keep.ensures.same)
+    subst (Answers nondominated c.args.self.now.rows.passes (view_of p) (Update c.args.point.now) (Added c.args.built.removed) c.in-Ok.version) (sym c.free_many.ensures.same)
     (answers c.args.self.now.rows c.args.stamp c.args.point.now c.args.built p c.args.pass.now c.publish.new.pass builds c.publish.ensures.same.same_number c.number.result c.number.ensures.number c.in-Ok.version (subst (Ended c.args.self.now.rows c.args.stamp c.args.point.now c.args.built p c.args.pass.now c.publish.new.pass builds c.publish.ensures.same.same_number c.number.result c.number.ensures.number) c.in-Ok.is (ended (goal.at.returns-in-Ok-clause-answers c).After-publish p builds))
-    c.leave.new.pass c.leave.ensures.number c.leave.ensures.seen c.leave.ensures.lists c.leave.ensures.consistent)
-
-pub keep-requires-clause-submitted : goal.keep-requires-clause-submitted
-keep-requires-clause-submitted c =
-    let p = c.requires.built.0 in
-    let builds = c.requires.built.1 in
-    submitted_last c.args.self.now.rows.passes (view_of p) (view_of c.leave.new.pass) c.args.point.now c.args.built.removed c.in-Ok.version
-    (answers c.args.self.now.rows c.args.stamp c.args.point.now c.args.built p c.args.pass.now c.publish.new.pass builds c.publish.ensures.same.same_number c.number.result c.number.ensures.number c.in-Ok.version (subst (Ended c.args.self.now.rows c.args.stamp c.args.point.now c.args.built p c.args.pass.now c.publish.new.pass builds c.publish.ensures.same.same_number c.number.result c.number.ensures.number) c.in-Ok.is (ended (goal.at.keep-requires-clause-submitted c).After-publish p builds))
     c.leave.new.pass c.leave.ensures.number c.leave.ensures.seen c.leave.ensures.lists c.leave.ensures.consistent)
 
 pub returns-in-Ok-clause-low : goal.returns-in-Ok-clause-low
@@ -67,7 +61,7 @@ returns-in-Ok-clause-low c = low c.args.self.now.rows c.args.stamp c.args.point.
 pub returns-in-Ok-clause-full : goal.returns-in-Ok-clause-full
 returns-in-Ok-clause-full c = (
   not_full _ _ refl refl,
-  c.keep.ensures.full ∙ ap (λ (k : Known). k.full) c.leave.ensures.left ∙ same_full c.args.self.now.rows c.args.stamp c.args.point.now c.args.built c.requires.built.0 c.args.pass.now c.publish.new.pass c.requires.built.1 c.publish.ensures.same.same_number c.number.result c.number.ensures.number _ (ended (goal.at.returns-in-Ok-clause-full c).After-publish c.requires.built.0 c.requires.built.1),
+  c.free_many.ensures.full ∙ ap (λ (k : Known). k.full) c.leave.ensures.left ∙ same_full c.args.self.now.rows c.args.stamp c.args.point.now c.args.built c.requires.built.0 c.args.pass.now c.publish.new.pass c.requires.built.1 c.publish.ensures.same.same_number c.number.result c.number.ensures.number _ (ended (goal.at.returns-in-Ok-clause-full c).After-publish c.requires.built.0 c.requires.built.1),
 )
 
 pub returns-in-Beaten-clause-full : goal.returns-in-Beaten-clause-full
@@ -83,9 +77,12 @@ returns-in-Spent-clause-full c = (
 )
 
 pub returns-in-Beaten-clause-beaten : goal.returns-in-Beaten-clause-beaten
-returns-in-Beaten-clause-beaten c v is =
-    same_version _ v is ∙ beaten c.args.self.now.rows c.args.stamp c.args.point.now c.args.built c.requires.built.0 c.args.pass.now c.publish.new.pass c.requires.built.1 c.publish.ensures.same.same_number c.number.result c.number.ensures.number c.in-Beaten.version (subst (λ x. Ended c.args.self.now.rows c.args.stamp c.args.point.now c.args.built c.requires.built.0 c.args.pass.now c.publish.new.pass c.requires.built.1 c.publish.ensures.same.same_number c.number.result c.number.ensures.number (Err x)) c.in-Beaten.is (subst (Ended c.args.self.now.rows c.args.stamp c.args.point.now c.args.built c.requires.built.0 c.args.pass.now c.publish.new.pass c.requires.built.1 c.publish.ensures.same.same_number c.number.result c.number.ensures.number) c.in-Err.is (ended (goal.at.returns-in-Beaten-clause-beaten c).After-publish c.requires.built.0 c.requires.built.1)))
-    ∙ ap length (sym (c.leave-in-Err.ensures.seen ∙ c.give_all_back.ensures.seen))
+returns-in-Beaten-clause-beaten c v is p pinned_since =
+    let back = c.give_all_back.ensures in
+    let left = c.leave-in-Err.ensures.left in
+    subst (λ x. IsBeaten x p c.leave-in-Err.new.pass) (sym (same_version _ v is))
+    (beaten c.args.self.now.rows c.args.stamp c.args.point.now c.args.built c.requires.built.0 c.args.pass.now c.publish.new.pass c.requires.built.1 c.publish.ensures.same.same_number c.number.result c.number.ensures.number c.in-Beaten.version (subst (λ x. Ended c.args.self.now.rows c.args.stamp c.args.point.now c.args.built c.requires.built.0 c.args.pass.now c.publish.new.pass c.requires.built.1 c.publish.ensures.same.same_number c.number.result c.number.ensures.number (Err x)) c.in-Beaten.is (subst (Ended c.args.self.now.rows c.args.stamp c.args.point.now c.args.built c.requires.built.0 c.args.pass.now c.publish.new.pass c.requires.built.1 c.publish.ensures.same.same_number c.number.result c.number.ensures.number) c.in-Err.is (ended (goal.at.returns-in-Beaten-clause-beaten c).After-publish c.requires.built.0 c.requires.built.1)))
+    p c.leave-in-Err.new.pass pinned_since (c.leave-in-Err.ensures.seen ∙ back.seen) (subst (IsPrefix (known_of c.publish.new.pass).looks) (sym (ap (λ (k : Known). k.looks) left)) back.builds.looked) (ap (λ (k : Known). k.since) left ∙ back.builds.since))
 
 pub returns-in-Spent-clause-spent : goal.returns-in-Spent-clause-spent
 returns-in-Spent-clause-spent c is =

@@ -3,22 +3,23 @@ use Rattle.std.proofs.lemmas.Bool.{true≢false}
 use Rattle.std.proofs.lemmas.Result.{IfOk-weaker}
 use Rattle.era_rows.specs.Known.{Known}
 use Rattle.era_rows.specs.Passes.{known_of, seen_of}
+use Rattle.era_one_row.proofs.GoingOn.{pin_stays}
 use Rattle.nd_shared.proofs.Built.{on_err, builds_at, opens_still}
 use Rattle.nd_shared.proofs.Recorded.{evidence_short, short_left}
 use Rattle.nd_shared.proofs.Room.{alone_room}
 use Rattle.nd_shared.proofs.Refusals.{not_full, not_spent, not_beaten, has_row, refused_as}
-use Rattle.nd_shared.proofs.tree.Tree.try_update.Goals as goal
+use Rattle.nd_shared.proofs.tree.Tree.try_point.Goals as goal
 
 pub publish-requires-clause-built : goal.publish-requires-clause-built
 publish-requires-clause-built c =
     let opens = c.open-stamp.ensures.opens in (
       c.args.pass.now,
-      builds_at c.args.self.now.rows c.open-stamp.result c.args.pass.now c.open-stamp.new.pass c.try_build.new.pass opens c.try_build.ensures.goes c.try_build.ensures.work (c.try_build.ensures.same_full (has_row c.try_build.result _ c.in-Ok.is refl)) c.args.point c.in-Ok.built
+      builds_at c.args.self.now.rows c.open-stamp.result c.args.pass.now c.open-stamp.new.pass c.try_build.new.pass opens c.try_build.ensures.goes c.try_build.ensures.work (c.try_build.ensures.same_full (has_row c.try_build.result _ c.in-Ok.is refl)) c.args.point.now c.in-Ok.built
           (c.in-Ok.ensures.built c.open-stamp.result opens.opened.tree),
     )
 
-pub tell-requires-clause-opened : goal.tell-requires-clause-opened
-tell-requires-clause-opened c =
+pub refuse-requires-clause-opened : goal.refuse-requires-clause-opened
+refuse-requires-clause-opened c =
     let opens = c.open-stamp.ensures.opens in (
       c.args.pass.now,
       opens_still c.args.self.now.rows c.open-stamp.result c.args.pass.now c.open-stamp.new.pass c.try_build.new.pass opens c.try_build.ensures.goes c.try_build.ensures.work (c.try_build.ensures.same_full (has_row c.try_build.result _ (c.in-Err-Covered.is ∙ ap refused_as c.in-Err-Covered.field-0-is) refl)) c.in-Err-Covered.ensures.refused.0 c.in-Err-Covered.ensures.refused.1,
@@ -32,7 +33,7 @@ returns-in-Ok-clause-refused c =
     let opens = c.open-stamp.ensures.opens in
     on_err c.publish.result _ _
     (λ gives. gives c.args.pass.now
-    (builds_at c.args.self.now.rows c.open-stamp.result c.args.pass.now c.open-stamp.new.pass c.try_build.new.pass opens c.try_build.ensures.goes c.try_build.ensures.work (c.try_build.ensures.same_full (has_row c.try_build.result _ c.in-Ok.is refl)) c.args.point c.in-Ok.built
+    (builds_at c.args.self.now.rows c.open-stamp.result c.args.pass.now c.open-stamp.new.pass c.try_build.new.pass opens c.try_build.ensures.goes c.try_build.ensures.work (c.try_build.ensures.same_full (has_row c.try_build.result _ c.in-Ok.is refl)) c.args.point.now c.in-Ok.built
     (c.in-Ok.ensures.built c.open-stamp.result opens.opened.tree)))
     c.publish.ensures.refused
 
@@ -41,12 +42,18 @@ returns-in-Ok-clause-answers c =
     let opens = c.open-stamp.ensures.opens in
     IfOk-weaker c.publish.result _ _
     (λ a gives. gives c.args.pass.now
-    (builds_at c.args.self.now.rows c.open-stamp.result c.args.pass.now c.open-stamp.new.pass c.try_build.new.pass opens c.try_build.ensures.goes c.try_build.ensures.work (c.try_build.ensures.same_full (has_row c.try_build.result _ c.in-Ok.is refl)) c.args.point c.in-Ok.built
+    (builds_at c.args.self.now.rows c.open-stamp.result c.args.pass.now c.open-stamp.new.pass c.try_build.new.pass opens c.try_build.ensures.goes c.try_build.ensures.work (c.try_build.ensures.same_full (has_row c.try_build.result _ c.in-Ok.is refl)) c.args.point.now c.in-Ok.built
     (c.in-Ok.ensures.built c.open-stamp.result opens.opened.tree)))
     c.publish.ensures.answers
 
 pub returns-in-Ok-clause-waits : goal.returns-in-Ok-clause-waits
 returns-in-Ok-clause-waits c = IfOk-weaker c.publish.result _ _ (λ a few accepting. few) c.publish.ensures.waits
+
+pub returns-in-Ok-clause-beaten : goal.returns-in-Ok-clause-beaten
+returns-in-Ok-clause-beaten c v is =
+    let builds = c.try_build.ensures.goes.builds in
+    c.publish.ensures.beaten v is c.args.pass.now
+    (pin_stays c.open-stamp.result (known_of c.args.pass.now) (known_of c.open-stamp.new.pass) (known_of c.try_build.new.pass) c.open-stamp.ensures.pinned builds.looked builds.since)
 
 pub returns-in-Ok-clause-full : goal.returns-in-Ok-clause-full
 returns-in-Ok-clause-full c is = absurd (c.publish.ensures.full.0 is)
@@ -57,7 +64,7 @@ returns-in-Ok-clause-same_full c other = c.publish.ensures.full.1 ∙ c.try_buil
 pub returns-in-Err-Covered-clause-answers : goal.returns-in-Err-Covered-clause-answers
 returns-in-Err-Covered-clause-answers c =
     let opens = c.open-stamp.ensures.opens in
-    c.tell.ensures.answers c.args.pass.now
+    c.refuse.ensures.answers c.args.pass.now
     (opens_still c.args.self.now.rows c.open-stamp.result c.args.pass.now c.open-stamp.new.pass c.try_build.new.pass opens c.try_build.ensures.goes c.try_build.ensures.work (c.try_build.ensures.same_full (has_row c.try_build.result _ (c.in-Err-Covered.is ∙ ap refused_as c.in-Err-Covered.field-0-is) refl)) c.in-Err-Covered.ensures.refused.0 c.in-Err-Covered.ensures.refused.1)
 
 pub returns-in-Err-Covered-clause-waits : goal.returns-in-Err-Covered-clause-waits
@@ -67,7 +74,7 @@ pub returns-in-Err-Covered-clause-full : goal.returns-in-Err-Covered-clause-full
 returns-in-Err-Covered-clause-full c is = absurd (not_full _ _ refl refl is)
 
 pub returns-in-Err-Covered-clause-same_full : goal.returns-in-Err-Covered-clause-same_full
-returns-in-Err-Covered-clause-same_full c other = c.tell.ensures.full ∙ c.try_build.ensures.same_full (has_row c.try_build.result _ (c.in-Err-Covered.is ∙ ap refused_as c.in-Err-Covered.field-0-is) refl) ∙ c.open-stamp.ensures.full
+returns-in-Err-Covered-clause-same_full c other = c.refuse.ensures.full ∙ c.try_build.ensures.same_full (has_row c.try_build.result _ (c.in-Err-Covered.is ∙ ap refused_as c.in-Err-Covered.field-0-is) refl) ∙ c.open-stamp.ensures.full
 
 pub returns-in-Err-Covered-clause-spent : goal.returns-in-Err-Covered-clause-spent
 returns-in-Err-Covered-clause-spent c is = absurd (not_spent _ refl is)
@@ -78,7 +85,7 @@ returns-in-Err-Covered-clause-beaten c v is = absurd (not_beaten _ v refl is)
 pub returns-in-Err-Full-clause-full : goal.returns-in-Err-Full-clause-full
 returns-in-Err-Full-clause-full c is = (
   short_left (known_of c.try_build.new.pass) (known_of c.leave.new.pass) c.leave.ensures.left (c.try_build.ensures.full (c.in-Err-Full.is ∙ ap refused_as c.in-Err-Full.field-0-is)),
-  subst (λ n. length (known_of c.args.pass.now).looks ≤ n) (sym (ap (λ (k : Known). k.since) c.leave.ensures.left ∙ c.try_build.ensures.goes.builds.since)) c.open-stamp.ensures.later,
+  subst (λ n. length (known_of c.args.pass.now).looks ≤ n) (sym (ap (λ (k : Known). k.since) c.leave.ensures.left ∙ c.try_build.ensures.goes.builds.since)) c.open-stamp.ensures.pinned.in_call,
 )
 
 pub returns-in-Err-Full-clause-same_full : goal.returns-in-Err-Full-clause-same_full

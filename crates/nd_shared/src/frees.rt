@@ -1,0 +1,24 @@
+//! Freeing retired rows after an update that added a point.
+ghost use Rattle.std.specs.Prelude.{◌≡◌};
+ghost use Rattle.era_rows.specs.Passes.{known_of};
+ghost use Rattle.nd_shared.specs.Views.{IsReady, FewWait, view_of};
+
+use crate::tree::{Tree, TreePass};
+
+// One in so many rows may wait at each pass.
+const WAITING: u32 = 8;
+
+impl Tree {
+    // Frees the retired rows that no pass can read, where many wait.
+    pub(crate) fn free_many(&self, pass: &mut TreePass)
+        requires ready { IsReady self.now.rows pass.old }
+        ensures ready { IsReady self.now.rows pass.new }
+        ensures same { view_of pass.new ≡ view_of pass.old }
+        ensures full { (known_of pass.new).full ≡ (known_of pass.old).full }
+        ensures waits { FewWait self.now.rows.rows self.now.rows.passes (known_of pass.new) }
+    {
+        if self.rows.waiting(pass) > self.rows.rows() / (WAITING * self.rows.passes()) {
+            self.rows.tidy(pass);
+        }
+    }
+}

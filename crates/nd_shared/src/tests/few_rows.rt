@@ -1,0 +1,150 @@
+//! Two callers on two threads, at a shared tree in few rows.
+ghost use Rattle.std.specs.Prelude.{◌≡◌};
+ghost use Rattle.nd_shared.specs.Views.{IsReady};
+
+use super::generated::{Answered, at_level, next, replay, snapshot_differs, try_call};
+use super::{start_many, take_last};
+use crate::{Tree, TreePass, TryRefusal};
+use pls_archive::Plain;
+use std::alloc::Global;
+use std::process::Abort;
+use std::test::*;
+use std::thread;
+use std::thread::Threads;
+
+// How many calls are made at least, and at most.
+const LEAST: u32 = 2_000;
+
+const MOST: u32 = 40_000;
+
+// How often no row was free, another update was published meanwhile, and fewer rows waited after a call than before.
+#[derive(Clone, Copy, Debug, Drop)]
+struct Met {
+    full: u32,
+    beaten: u32,
+    freed: u32,
+}
+
+impl Met {
+    fn has_all(&self) -> bool {
+        self.full > 0 && self.beaten > 0 && self.freed > 0
+    }
+
+    fn with(&self, other: &Met) -> Met {
+        Met {
+            full: self.full.saturating_add(other.full),
+            beaten: self.beaten.saturating_add(other.beaten),
+            freed: self.freed.saturating_add(other.freed),
+        }
+    }
+}
+
+// What the calls of one caller met, and those that were answered.
+#[derive(Debug, Drop)]
+struct Made {
+    met: Met,
+    calls: Vec<Answered>,
+}
+
+// Makes the call that the word chooses: whether there was memory to note it.
+fn make_call(rt: &impl Abort, tree: &Tree, pass: &mut TreePass, word: u64, made: &mut Made) -> bool
+    requires ready { IsReady tree.now.rows pass.old }
+    requires parts { tree.now.rows.shape ≡ 3 }
+    ensures ready { IsReady tree.now.rows pass.new }
+{
+    let waited = tree.rows().waiting(pass);
+    let answer = try_call(rt, tree, pass, word);
+    let freed = tree.rows().waiting(pass) < waited;
+    let full = answer.is_err_and(|e| e == TryRefusal::Full);
+    made.met = made.met.with(&Met {
+        full: u32::from(full),
+        beaten: u32::from(answer.is_err() && !full),
+        freed: u32::from(freed),
+    });
+    match answer {
+        Ok(call) => made.calls.push(call).is_ok(),
+        Err(_) => true,
+    }
+}
+
+// Makes calls that words from this one on choose, whose points rise by a level after each 256, until all was met.
+fn make_calls(
+    rt: &impl Abort,
+    alloc: Global,
+    tree: &Tree,
+    mut pass: TreePass,
+    first: u64,
+) -> (TreePass, Made)
+    requires ready { IsReady tree.now.rows pass }
+    requires parts { tree.now.rows.shape ≡ 3 }
+    ensures { IsReady tree.now.rows result.0 }
+{
+    let mut made = Made {
+        met: Met {
+            full: 0,
+            beaten: 0,
+            freed: 0,
+        },
+        calls: Vec::new(alloc),
+    };
+    let mut word = first;
+    for turn in 0..MOST {
+        word = next(word);
+        let has_memory = make_call(
+            rt,
+            tree,
+            &mut pass,
+            at_level(word, (turn / 256) as u16),
+            &mut made,
+        );
+        if !has_memory || turn >= LEAST && made.met.has_all() {
+            break;
+        }
+    }
+    (pass, made)
+}
+
+// Two callers make calls at once; then their passes are joined.
+fn call_by_two<R: Abort + Threads + Sync>(
+    rt: &R,
+    alloc: Global,
+    tree: &Tree,
+    a: TreePass,
+    b: TreePass,
+) -> (TreePass, Made, Made)
+    requires ready { IsReady tree.now.rows a × IsReady tree.now.rows b }
+    requires parts { tree.now.rows.shape ≡ 3 }
+    ensures { IsReady tree.now.rows result.0 }
+{
+    let ((mut a, by_a), (b, by_b)) = thread::join(
+        rt,
+        move ||
+            requires { IsReady tree.now.rows a × (tree.now.rows.shape ≡ 3) }
+            ensures { IsReady tree.entry.now.rows result.0 }
+        { make_calls(rt, alloc, tree, a, 20_262) },
+        move ||
+            requires { IsReady tree.now.rows b × (tree.now.rows.shape ≡ 3) }
+            ensures { IsReady tree.entry.now.rows result.0 }
+        { make_calls(rt, alloc, tree, b, 88_173) },
+    );
+    tree.join(&mut a, b);
+    (a, by_a, by_b)
+}
+
+#[test]
+fn two_threads_at_few_rows_make_one_legal_history(rt: HostRuntime) -> Result<(), Fail> {
+    let (tree, mut passes) = start_many(rt.alloc(), 3, 64, 2)?;
+    let b = take_last(&tree, &mut passes).expect(&rt, "two passes");
+    let a = take_last(&tree, &mut passes).expect(&rt, "two passes");
+    let (mut pass, by_a, mut by_b) = call_by_two(&rt, rt.alloc(), &tree, a, b);
+    let met = by_a.met.with(&by_b.met);
+    assert!(&rt; met.has_all(), "{met:?}");
+    let mut calls = by_a.calls;
+    calls.append(&mut by_b.calls)?;
+    let mut plain = Plain::new(rt.alloc(), 3);
+    let (accepted, differences) = replay(&rt, &mut plain, &mut calls)?;
+    assert_eq!(&rt; differences, 0);
+    assert!(&rt; accepted > 64, "rows were used again");
+    assert!(&rt; !snapshot_differs(rt.alloc(), &tree, &mut pass, &plain)?);
+    Ok(())
+}
