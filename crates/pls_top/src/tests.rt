@@ -7,8 +7,10 @@ use std::sync::Wait;
 use std::test::Fail;
 use std::thread::Threads;
 
+mod failing;
 mod meeting;
 mod nine_calls;
+mod refusing;
 mod searched;
 
 const TWO_ITEMS: &str = "pls1 knapsack 2 2 1\n10\n3 1\n1 3\n2 3\n";

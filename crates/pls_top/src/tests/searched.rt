@@ -19,10 +19,10 @@ use std::sync::Wait;
 use std::test::*;
 use std::thread::Threads;
 
-const FOUR_CITIES: &str = "pls1 tour 2 4\n1 9 1 1 9 1\n9 1 5 5 1 9\n";
+pub(crate) const FOUR_CITIES: &str = "pls1 tour 2 4\n1 9 1 1 9 1\n9 1 5 5 1 9\n";
 
 /// The instance of a short text.
-fn short_instance(alloc: Global, text: &str) -> Option<Instance> {
+pub(crate) fn short_instance(alloc: Global, text: &str) -> Option<Instance> {
     if text.len() > 1000 {
         return None;
     }
@@ -39,7 +39,7 @@ fn choice(items: u16, chosen: u64) -> Sol
     Sol::of_words(items, words)
 }
 
-fn are_feasible(instance: &Instance, starts: &[Sol]) -> bool
+pub(crate) fn are_feasible(instance: &Instance, starts: &[Sol]) -> bool
     ensures { result ≡ true → All (λ s. feasible instance.now s ≡ true) starts.now }
 {
     starts.iter().all(|start| instance.is_feasible(start))
