@@ -140,6 +140,10 @@ case ${1:-} in
         build_plain "$1"
         compare 40 "$ours" "$plain"
         ;;
+    questions)
+        build_program questions
+        compare 20 "$ours rows" "$ours alone"
+        ;;
     search)
         build_plain search
         mkdir "$work/instances"

@@ -471,5 +471,6 @@ fn main() {
     for (cities, objectives) in [(60, 2), (60, 3), (60, 4), (100, 3)] {
         time("tree", cities, objectives, NdTree::new(objectives));
         time("list", cities, objectives, List::default());
+        time("turns", cities, objectives, NdTree::new(objectives));
     }
 }
