@@ -10,3 +10,4 @@ pub mod Trying
 pub mod Starting
 pub mod Waiting
 pub mod Room
+pub mod Reading

@@ -1,14 +1,19 @@
 //! Building what an update is to publish.
-ghost use Rattle.std.specs.Prelude.{◌≡◌, ◌≢◌, ℕ, Err, [], IfOk, IfErr, length, take};
-ghost use Rattle.era_rows.specs.Passes.{known_of, seen_of, marked_of, work_of};
+ghost use Rattle.std.specs.Prelude.{◌≡◌, ◌≢◌, ℕ, true, Err, [], IfOk, IfErr, length, take};
+ghost use Rattle.era_rows.specs.Known.{pinned_copy};
+ghost use Rattle.era_rows.specs.Passes.{known_of, seen_of, marked_of, memory_of, work_of};
 ghost use Rattle.pls_archive.specs.declared.call.Call.TheVariants.{Covered};
 ghost use Rattle.pls_archive.specs.Archives.{yes_or_no};
 ghost use Rattle.pls_archive.specs.History.{submissions};
 ghost use Rattle.pls_archive.specs.Reply.{nondominated};
+ghost use Rattle.nd_rows.specs.Entries.{recalls_value};
+ghost use Rattle.nd_rows.specs.Layout.{IsTreeOf};
+ghost use Rattle.nd_rows.specs.Nodes.{Nodes};
 ghost use Rattle.nd_rows.specs.Reads.{HasPinnedTree};
 ghost use Rattle.nd_update.specs.Built.{IsPublishable, says_covered};
 ghost use Rattle.nd_update.specs.Building.{Goes};
 ghost use Rattle.nd_update.specs.Counted.{IsCounted, IsCrowded, IsShort};
+ghost use Rattle.nd_update.specs.Needed.{needed, ReadsOnly};
 ghost use Rattle.nd_update.specs.declared.builds.BuildRefusal.TheVariants.{Full};
 
 use crate::tree::{Tree, TreePass};
@@ -37,6 +42,8 @@ impl Tree {
         ensures built { IfOk result (λ b. (n : ℕ) → HasPinnedTree self.now.rows n pass.old → IsPublishable n point.now b pass.new) }
         ensures refused { IfErr result (λ _. ((known_of pass.new).core.fresh ≡ []) × (marked_of pass.new ≡ [])) }
         ensures covered { (n : ℕ) → HasPinnedTree self.now.rows n pass.old → yes_or_no (says_covered result) ≡ nondominated (submissions (take n (seen_of pass.old))) (Covered point.now.value) }
+        ensures only { (t : Nodes) → IsTreeOf self.now.rows.shape (pinned_copy (known_of pass.old)) t → ReadsOnly (needed point.now.value self.now.rows.rows t) (known_of pass.old) (known_of pass.new) }
+        ensures recalled { recalls_value (memory_of pass.old) point.now.value ≡ true → ReadsOnly [] (known_of pass.old) (known_of pass.new) }
     {
         if recalls(pass, &point.value) {
             return Err(BuildRefusal::Covered);

@@ -2,7 +2,7 @@
 ghost use Rattle.std.specs.Prelude.{◌≡◌, ℕ, ◌+◌, ◌<◌, ◌≤◌, false, Some, IfOk, OnErr, [], length};
 ghost use Rattle.era_core.specs.declared.sizes.TheConstants.{ROOT_ROWS, LAST_VERSION};
 ghost use Rattle.era_rows.specs.Known.{leaving};
-ghost use Rattle.era_rows.specs.Passes.{known_of, knows_of, seen_of, lists_of, marked_of, work_of, IsPassOf};
+ghost use Rattle.era_rows.specs.Passes.{known_of, knows_of, seen_of, lists_of, marked_of, memory_of, work_of, IsPassOf};
 ghost use Rattle.pls_archive.specs.declared.call.Call.TheVariants.{Covered, Member, Snapshot};
 ghost use Rattle.pls_archive.specs.declared.call.Reply.TheVariants.{Points};
 ghost use Rattle.pls_archive.specs.Archives.{yes_or_no};
@@ -13,8 +13,10 @@ ghost use Rattle.pls_archive.specs.View.{IsConsistent};
 ghost use Rattle.pls_archive.specs.SharedCalls.{Answers, IsRefused};
 ghost use Rattle.era_one_row.specs.Ready.{HasPinned};
 ghost use Rattle.nd_rows.specs.Entries.{HasParts};
+ghost use Rattle.nd_rows.specs.Nodes.{necessary};
 ghost use Rattle.nd_update.specs.Counted.{IsCounted};
 ghost use Rattle.nd_update.specs.Resting.{IsOpen};
+ghost use Rattle.nd_shared.specs.Reading.{IsUnread, ReadsOf};
 ghost use Rattle.nd_shared.specs.Views.{AreListed, HasEvidence, IsReady, Opens, Pins, view_of};
 
 use crate::told::Told;
@@ -52,6 +54,7 @@ impl Tree {
         ensures number { pass.new.number ≡ pass.old.number }
         ensures small { (result.0 ≤ LAST_VERSION) × (result.1 < ROOT_ROWS) }
         ensures pins { Pins result.0 result.1 (knows_of pass.old) (knows_of pass.new) }
+        ensures memory { memory_of pass.new ≡ memory_of pass.old }
     {
         self.rows.pin(pass)
     }
@@ -64,6 +67,8 @@ impl Tree {
         ensures counted { IsCounted (known_of pass.new) (marked_of pass.new) }
         ensures copies { length (known_of pass.new).copies ≡ result + 1 }
         ensures pinned { HasPinned result (known_of pass.old) (known_of pass.new) }
+        ensures unread { IsUnread result (known_of pass.new) }
+        ensures memory { memory_of pass.new ≡ memory_of pass.old }
         ensures full { (known_of pass.new).full ≡ (known_of pass.old).full }
     {
         self.pin(pass).0
@@ -77,6 +82,7 @@ impl Tree {
         requires nothing { is_accepting call.now reply.now ≡ false }
         ensures ready { IsReady self.now.rows pass.new }
         ensures answers { (p : _) → Opens self.now.rows stamp p pass.old → Answers nondominated self.now.rows.passes (view_of p) call.now reply.now stamp (view_of pass.new) }
+        ensures left { known_of pass.new ≡ leaving (known_of pass.old) }
         ensures full { (known_of pass.new).full ≡ (known_of pass.old).full }
     {
         let told = Told {
@@ -112,6 +118,7 @@ impl Tree {
         requires parts { length value ≡ self.now.rows.shape }
         ensures ready { IsReady self.now.rows pass.new }
         ensures answers { Answers nondominated self.now.rows.passes (view_of pass.old) (Covered value) (yes_or_no result.0) result.1 (view_of pass.new) }
+        ensures reads { ReadsOf self.now.rows.shape (necessary value) (known_of pass.old) (known_of pass.new) }
         ensures full { (known_of pass.new).full ≡ (known_of pass.old).full }
     {
         let stamp = self.open(pass);
@@ -126,6 +133,7 @@ impl Tree {
         requires parts { length value ≡ self.now.rows.shape }
         ensures ready { IsReady self.now.rows pass.new }
         ensures answers { Answers nondominated self.now.rows.passes (view_of pass.old) (Member value) (yes_or_no result.0) result.1 (view_of pass.new) }
+        ensures reads { ReadsOf self.now.rows.shape (necessary value) (known_of pass.old) (known_of pass.new) }
         ensures full { (known_of pass.new).full ≡ (known_of pass.old).full }
     {
         let stamp = self.open(pass);

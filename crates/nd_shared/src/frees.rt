@@ -1,6 +1,7 @@
 //! Freeing retired rows after an update that added a point.
-ghost use Rattle.std.specs.Prelude.{◌≡◌};
+ghost use Rattle.std.specs.Prelude.{◌≡◌, ℕ, List};
 ghost use Rattle.era_rows.specs.Passes.{known_of};
+ghost use Rattle.nd_shared.specs.Reading.{ReadsNone};
 ghost use Rattle.nd_shared.specs.Views.{IsReady, FewWait, view_of};
 
 use crate::tree::{Tree, TreePass};
@@ -15,6 +16,7 @@ impl Tree {
         ensures ready { IsReady self.now.rows pass.new }
         ensures same { view_of pass.new ≡ view_of pass.old }
         ensures full { (known_of pass.new).full ≡ (known_of pass.old).full }
+        ensures reads { (rows : List ℕ) → ReadsNone rows (known_of pass.old) (known_of pass.new) }
         ensures waits { FewWait self.now.rows.rows self.now.rows.passes (known_of pass.new) }
     {
         if self.rows.waiting(pass) > self.rows.rows() / (WAITING * self.rows.passes()) {

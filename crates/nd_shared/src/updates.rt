@@ -1,7 +1,8 @@
 //! Updates of the shared tree.
-ghost use Rattle.std.specs.Prelude.{◌≡◌, ◌≢◌, ℕ, ◌+◌, ◌*◌, ◌<◌, ◌≤◌, true, Err, IfOk, OnOk, OnErr, length};
+ghost use Rattle.std.specs.Prelude.{◌≡◌, ◌≢◌, ℕ, ◌+◌, ◌*◌, ◌<◌, ◌≤◌, true, [], Err, IfOk, OnOk, OnErr, length};
 ghost use Rattle.era_core.specs.declared.sizes.TheConstants.{LAST_VERSION};
-ghost use Rattle.era_rows.specs.Passes.{known_of, knows_of, seen_of};
+ghost use Rattle.era_rows.specs.Known.{leaving, pinned_copy};
+ghost use Rattle.era_rows.specs.Passes.{known_of, knows_of, seen_of, memory_of};
 ghost use Rattle.era_one_row.specs.Ready.{HasPinned, IsBeaten};
 ghost use Rattle.pls_archive.specs.declared.call.Call.TheVariants.{Update};
 ghost use Rattle.pls_archive.specs.declared.call.Reply.TheVariants.{Refused};
@@ -10,7 +11,10 @@ ghost use Rattle.pls_archive.specs.History.{submissions};
 ghost use Rattle.pls_archive.specs.Reply.{nondominated};
 ghost use Rattle.pls_archive.specs.Rule.{is_accepting};
 ghost use Rattle.pls_archive.specs.SharedCalls.{Answers, IsRefused};
+ghost use Rattle.nd_rows.specs.Entries.{recalls_value};
 ghost use Rattle.nd_update.specs.Counted.{IsShort};
+ghost use Rattle.nd_update.specs.Needed.{needed};
+ghost use Rattle.nd_shared.specs.Reading.{ReadsNone, ReadsOf};
 ghost use Rattle.nd_shared.specs.Views.{IsReady, BuildsAt, FewWait, Opens, view_of};
 ghost use Rattle.nd_shared.specs.declared.refusal.TryRefusal.TheVariants.{Full, Spent, Beaten};
 
@@ -44,6 +48,7 @@ impl Tree {
         ensures full { (result ≢ Err Full) × ((known_of pass.new).full ≡ (known_of pass.old).full) }
         ensures spent { result ≡ Err Spent → (length (seen_of pass.new) ≡ LAST_VERSION) × (is_accepting (Update point.now) (nondominated (submissions (seen_of pass.new)) (Update point.now)) ≡ true) }
         ensures beaten { (v : ℕ) → result ≡ Err (Beaten v) → (p : _) → HasPinned stamp (known_of p) (known_of pass.old) → IsBeaten v p pass.new }
+        ensures reads { ReadsNone (pinned_copy (known_of pass.old)).rows (known_of pass.old) (known_of pass.new) }
     {
         let adds = Adds {
             caller: self.rows.number(pass),
@@ -76,6 +81,7 @@ impl Tree {
         requires due { Refused ≡ nondominated (submissions (knows_of pass.old).seen) (Update point.now) }
         ensures ready { IsReady self.now.rows pass.new }
         ensures answers { (p : _) → Opens self.now.rows stamp p pass.old → Answers nondominated self.now.rows.passes (view_of p) (Update point.now) Refused stamp (view_of pass.new) }
+        ensures left { known_of pass.new ≡ leaving (known_of pass.old) }
         ensures full { (known_of pass.new).full ≡ (known_of pass.old).full }
     {
         let refuses = Refuses {
@@ -104,6 +110,8 @@ impl Tree {
         ensures same_full { result ≢ Err Full → (known_of pass.new).full ≡ (known_of pass.old).full }
         ensures spent { result ≡ Err Spent → (length (seen_of pass.new) ≡ LAST_VERSION) × (is_accepting (Update point.now) (nondominated (submissions (seen_of pass.new)) (Update point.now)) ≡ true) }
         ensures beaten { (v : ℕ) → result ≡ Err (Beaten v) → IsBeaten v pass.old pass.new }
+        ensures reads { ReadsOf self.now.rows.shape (needed point.now.value self.now.rows.rows) (known_of pass.old) (known_of pass.new) }
+        ensures recalled { recalls_value (memory_of pass.old) point.now.value ≡ true → ReadsOf self.now.rows.shape (λ _. []) (known_of pass.old) (known_of pass.new) }
     {
         let stamp = self.open(pass);
         match self.try_build(pass, point) {
@@ -140,6 +148,8 @@ impl Tree {
         ensures same_full { result ≢ Err Full → (known_of pass.new).full ≡ (known_of pass.old).full }
         ensures spent { result ≡ Err Spent → (length (seen_of pass.new) ≡ LAST_VERSION) × (is_accepting (Update point) (nondominated (submissions (seen_of pass.new)) (Update point)) ≡ true) }
         ensures beaten { (v : ℕ) → result ≡ Err (Beaten v) → IsBeaten v pass.old pass.new }
+        ensures reads { ReadsOf self.now.rows.shape (needed point.value self.now.rows.rows) (known_of pass.old) (known_of pass.new) }
+        ensures recalled { recalls_value (memory_of pass.old) point.value ≡ true → ReadsOf self.now.rows.shape (λ _. []) (known_of pass.old) (known_of pass.new) }
     {
         self.try_point(pass, &point)
     }

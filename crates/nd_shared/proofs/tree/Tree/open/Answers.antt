@@ -1,6 +1,8 @@
 use Rattle.std.proofs.Common.{◌+◌, ap, ◌∙◌}
+use Rattle.era_rows.specs.Passes.{knows_of}
 use Rattle.era_one_row.proofs.GoingOn.{pin_was_now}
 use Rattle.nd_shared.proofs.Opening.{opens}
+use Rattle.nd_shared.proofs.Reading.{unread_pinned}
 use Rattle.nd_shared.proofs.tree.Tree.open.Goals as goal
 
 pub returns-clause-opens : goal.returns-clause-opens
@@ -13,3 +15,6 @@ returns-clause-copies c =
 
 pub returns-clause-pinned : goal.returns-clause-pinned
 returns-clause-pinned c = pin_was_now _ _ _ _ _ _ c.pin.result.0 c.pin.result.1 c.pin.ensures.small.1 _ _ c.pin.ensures.pins
+
+pub returns-clause-unread : goal.returns-clause-unread
+returns-clause-unread c = unread_pinned c.pin.result.0 c.pin.result.1 (knows_of c.args.pass.now) (knows_of c.pin.new.pass) c.pin.ensures.small.1 c.pin.ensures.pins

@@ -1,6 +1,7 @@
 use Rattle.std.proofs.Common.{◌≡◌, Some, refl, ap, ◌∙◌}
 use Rattle.era_rows.specs.Passes.{knows_of}
 use Rattle.era_rows.specs.Plays.{having_left}
+use Rattle.era_rows.specs.declared.views.Knows.{Knows}
 use Rattle.pls_archive.specs.declared.call.Call.TheVariants.{Update}
 use Rattle.pls_archive.specs.declared.call.Entry.{Entry}
 use Rattle.pls_archive.specs.declared.call.Reply.TheVariants.{Refused}
@@ -17,3 +18,6 @@ returns-clause-ready c = told_ready c.args.self.now.rows c.args.stamp c.requires
 
 pub returns-clause-answers : goal.returns-clause-answers
 returns-clause-answers c p opens = told_answers c.args.self.now.rows c.args.stamp p c.args.pass.now c.unpin.new.pass opens c.unpin.ensures.pass c.unpin.ensures.same c.number.result c.number.ensures.number (Update c.args.point.now) Refused (left c) c.requires.due refl c.unpin.ensures.consistent
+
+pub returns-clause-left : goal.returns-clause-left
+returns-clause-left c = ap (λ (k : Knows Entry). k.view) c.unpin.ensures.left

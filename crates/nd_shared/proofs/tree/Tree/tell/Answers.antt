@@ -1,6 +1,7 @@
-use Rattle.std.proofs.Common.{◌≡◌, Some, ap₂, ◌∙◌}
+use Rattle.std.proofs.Common.{◌≡◌, Some, ap, ap₂, ◌∙◌}
 use Rattle.era_rows.specs.Passes.{knows_of}
 use Rattle.era_rows.specs.Plays.{having_left}
+use Rattle.era_rows.specs.declared.views.Knows.{Knows}
 use Rattle.pls_archive.specs.declared.call.Entry.{Entry}
 use Rattle.nd_shared.proofs.Telling.{named, told_ready, told_answers}
 use Rattle.nd_shared.proofs.tree.Tree.tell.Goals as goal
@@ -15,3 +16,6 @@ returns-clause-ready c = told_ready c.args.self.now.rows c.args.stamp c.requires
 
 pub returns-clause-answers : goal.returns-clause-answers
 returns-clause-answers c p opens = told_answers c.args.self.now.rows c.args.stamp p c.args.pass.now c.unpin.new.pass opens c.unpin.ensures.pass c.unpin.ensures.same c.number.result c.number.ensures.number c.args.call.now c.args.reply.now (left c) c.requires.due c.requires.nothing c.unpin.ensures.consistent
+
+pub returns-clause-left : goal.returns-clause-left
+returns-clause-left c = ap (λ (k : Knows Entry). k.view) c.unpin.ensures.left

@@ -1,14 +1,35 @@
-use Rattle.std.proofs.Common.{◌≡◌, ◌+◌, ◌*◌, ◌<◌, ◌≤◌, refl, ap, sym, subst, ◌∙◌, length}
+use Rattle.std.proofs.Common.{◌≡◌, ◌+◌, ◌*◌, ◌<◌, ◌≤◌, true, [], refl, ap, sym, subst, ◌∙◌, length}
 use Rattle.std.proofs.lemmas.Bool.{true≢false}
 use Rattle.std.proofs.lemmas.Result.{IfOk-weaker}
-use Rattle.era_rows.specs.Known.{Known}
-use Rattle.era_rows.specs.Passes.{known_of, seen_of}
+use Rattle.era_rows.specs.Known.{Known, pinned_copy}
+use Rattle.era_rows.specs.Passes.{known_of, seen_of, memory_of}
 use Rattle.era_one_row.proofs.GoingOn.{pin_stays}
+use Rattle.nd_rows.specs.Entries.{recalls_value}
+use Rattle.nd_update.specs.Needed.{needed}
+use Rattle.nd_shared.specs.Reading.{ReadsNone, ReadsOf}
 use Rattle.nd_shared.proofs.Built.{on_err, builds_at, opens_still}
 use Rattle.nd_shared.proofs.Recorded.{evidence_short, short_left}
 use Rattle.nd_shared.proofs.Room.{alone_room}
+use Rattle.nd_shared.proofs.Reading.{none_left, reads_built}
 use Rattle.nd_shared.proofs.Refusals.{not_full, not_spent, not_beaten, has_row, refused_as}
 use Rattle.nd_shared.proofs.tree.Tree.try_point.Goals as goal
+use Rattle.nd_shared.proofs.tree.Tree.try_point.Goals.{After-try_build}
+
+-- however the call ends, it found what the update needs, and nothing where the pass remembers a value that covers the point
+module _ (c : After-try_build) (end : Known) (rest : ReadsNone (pinned_copy (known_of c.try_build.new.pass)).rows (known_of c.try_build.new.pass) end) where
+  needs : ReadsOf c.args.self.now.rows.shape (needed c.args.point.now.value c.args.self.now.rows.rows) (known_of c.args.pass.now) end
+  needs =
+      let opened = c.open-stamp.ensures in
+      let tree = opened.opens.opened.tree.stands in
+      reads_built c.args.self.now.rows.shape c.open-stamp.result (needed c.args.point.now.value c.args.self.now.rows.rows) (known_of c.args.pass.now) (known_of c.open-stamp.new.pass) (known_of c.try_build.new.pass) end tree.0 opened.pinned opened.unread tree.1
+      c.try_build.ensures.goes.builds (c.try_build.ensures.only tree.0 tree.1) rest
+
+  recalls : recalls_value (memory_of c.args.pass.now) c.args.point.now.value ≡ true → ReadsOf c.args.self.now.rows.shape (λ _. []) (known_of c.args.pass.now) end
+  recalls covers =
+      let opened = c.open-stamp.ensures in
+      let tree = opened.opens.opened.tree.stands in
+      reads_built c.args.self.now.rows.shape c.open-stamp.result (λ _. []) (known_of c.args.pass.now) (known_of c.open-stamp.new.pass) (known_of c.try_build.new.pass) end tree.0 opened.pinned opened.unread tree.1
+      c.try_build.ensures.goes.builds (c.try_build.ensures.recalled (ap (λ memory. recalls_value memory c.args.point.now.value) opened.memory ∙ covers)) rest
 
 pub publish-requires-clause-built : goal.publish-requires-clause-built
 publish-requires-clause-built c =
@@ -112,3 +133,21 @@ returns-in-Ok-clause-room c is = absurd (c.publish.ensures.full.0 is)
 
 pub returns-in-Err-Covered-clause-room : goal.returns-in-Err-Covered-clause-room
 returns-in-Err-Covered-clause-room c is = absurd (not_full _ _ refl refl is)
+
+pub returns-in-Ok-clause-reads : goal.returns-in-Ok-clause-reads
+returns-in-Ok-clause-reads c = needs (goal.at.returns-in-Ok-clause-reads c).After-try_build (known_of c.publish.new.pass) c.publish.ensures.reads
+
+pub returns-in-Ok-clause-recalled : goal.returns-in-Ok-clause-recalled
+returns-in-Ok-clause-recalled c = recalls (goal.at.returns-in-Ok-clause-recalled c).After-try_build (known_of c.publish.new.pass) c.publish.ensures.reads
+
+pub returns-in-Err-Covered-clause-reads : goal.returns-in-Err-Covered-clause-reads
+returns-in-Err-Covered-clause-reads c = needs (goal.at.returns-in-Err-Covered-clause-reads c).After-try_build (known_of c.refuse.new.pass) (none_left _ (known_of c.try_build.new.pass) (known_of c.refuse.new.pass) c.refuse.ensures.left)
+
+pub returns-in-Err-Covered-clause-recalled : goal.returns-in-Err-Covered-clause-recalled
+returns-in-Err-Covered-clause-recalled c = recalls (goal.at.returns-in-Err-Covered-clause-recalled c).After-try_build (known_of c.refuse.new.pass) (none_left _ (known_of c.try_build.new.pass) (known_of c.refuse.new.pass) c.refuse.ensures.left)
+
+pub returns-in-Err-Full-clause-reads : goal.returns-in-Err-Full-clause-reads
+returns-in-Err-Full-clause-reads c = needs (goal.at.returns-in-Err-Full-clause-reads c).After-try_build (known_of c.leave.new.pass) (none_left _ (known_of c.try_build.new.pass) (known_of c.leave.new.pass) c.leave.ensures.left)
+
+pub returns-in-Err-Full-clause-recalled : goal.returns-in-Err-Full-clause-recalled
+returns-in-Err-Full-clause-recalled c = recalls (goal.at.returns-in-Err-Full-clause-recalled c).After-try_build (known_of c.leave.new.pass) (none_left _ (known_of c.try_build.new.pass) (known_of c.leave.new.pass) c.leave.ensures.left)
