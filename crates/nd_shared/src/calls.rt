@@ -113,6 +113,7 @@ impl Tree {
     }
 
     /// Whether the value is covered, and the stamp of that answer: how many points were added before.
+    /// Of the pinned tree it reads only rows that the question needs.
     pub fn covered_now(&self, pass: &mut TreePass, value: Vector) -> (bool, u64)
         requires ready { IsReady self.now.rows pass.old }
         requires parts { length value ≡ self.now.rows.shape }
@@ -128,6 +129,7 @@ impl Tree {
     }
 
     /// Whether the value is that of a member, and the stamp of that answer.
+    /// Of the pinned tree it reads only rows that the question needs.
     pub fn member_now(&self, pass: &mut TreePass, value: Vector) -> (bool, u64)
         requires ready { IsReady self.now.rows pass.old }
         requires parts { length value ≡ self.now.rows.shape }

@@ -127,7 +127,8 @@ impl Tree {
         }
     }
 
-    /// Submits a point, unless another update is published meanwhile.
+    /// Submits a point, unless another update is published meanwhile. Of the pinned tree it reads only rows that the update needs, and none
+    /// where a value that the pass remembers covers the point.
     ///
     /// # Errors
     ///
