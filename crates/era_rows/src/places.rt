@@ -27,9 +27,6 @@ impl<L: Law> Rows<L> {
         requires { (row < self.now.rows) × (place < WIDTH) }
         ensures { result ≡ cell_at self.now.passes self.now.rows row place }
     {
-        1 + self.passes as usize
-            + self.rows as usize
-            + WIDTH as usize * row as usize
-            + place as usize
+        self.cells + WIDTH as usize * row as usize + place as usize
     }
 }

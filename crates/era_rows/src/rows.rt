@@ -1,6 +1,6 @@
 //! The rows.
 ghost use Rattle.std.specs.Prelude.{◌≡◌, ◌≤◌};
-ghost use Rattle.era_core.specs.Words.{words_len};
+ghost use Rattle.era_core.specs.Words.{words_len, cell_at};
 ghost use Rattle.era_core.specs.declared.sizes.TheConstants.{MOST_ROWS, MOST_PASSES};
 ghost use Rattle.era_rows.specs.declared.sizes.TheConstants.{LEAST_ROWS};
 
@@ -18,6 +18,9 @@ pub struct Rows<L: Law> {
     pub(crate) shape: u64,
     pub(crate) rows: u32,
     pub(crate) passes: u32,
+    // The place of the first word of row 0.
+    pub(crate) cells: usize,
+    ghost placed: { cells ≡ cell_at passes rows 0 0 },
     ghost sized: { table.shared.key ≡ record { shape = shape; rows = rows; passes = passes } },
     ghost long: { table.shared.table_id.words ≡ words_len passes rows },
     ghost some_rows: { LEAST_ROWS ≤ rows },

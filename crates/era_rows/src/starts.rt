@@ -42,6 +42,7 @@ impl<L: Law> Rows<L> {
             shape,
             rows,
             passes,
+            cells: 1 + passes as usize + rows as usize,
         };
         Ok((all, seat))
     }
