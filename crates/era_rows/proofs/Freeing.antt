@@ -69,11 +69,11 @@ module _ {k : Known} {number next : ℕ} {pinned : Option (ℕ × ℕ)} {fresh :
       (λ apart. (let same = times-rows_in-without_row x p.1 k.core.retired apart in omega arith))
       (cases_eq x p.1)
 
-  -- it is freed, and the next search begins there
-  pub tied_freed : IsTied (less_row p.1 k) number p.1 pinned fresh loose marked rest
+  -- it is freed
+  pub tied_freed : IsTied (less_row p.1 k) number next pinned fresh loose marked rest
   tied_freed = record {
     numbered = t.numbered;
-    turn = (let low = retired_inside in omega arith);
+    turn = t.turn;
     pinned_is = t.pinned_is;
     settled = t.settled;
     silent = t.silent;

@@ -181,11 +181,11 @@ module _ {k : Known} {number next : ℕ} {pinned : Option (ℕ × ℕ)} {fresh :
       all_fresh zero c there = subst (λ (x : Cell). In x.row k.core.fresh) (some-injective (record { row = r; place = p; word = w }) c there) here
       all_fresh (suc i) c there = let old = at_filter _ k.written i c there in t.written_fresh old.0 c old.1
 
-  -- Free of a fresh row, at which the next search begins
-  pub tied_given_back : (r : ℕ) → In r k.core.fresh → IsTied (giving_back r k) number r pinned (without (r ∷ []) fresh) (set loose r false) marked retired
+  -- Free of a fresh row
+  pub tied_given_back : (r : ℕ) → In r k.core.fresh → IsTied (giving_back r k) number next pinned (without (r ∷ []) fresh) (set loose r false) marked retired
   tied_given_back r here = record {
     numbered = t.numbered;
-    turn = (let low = tied_row r here in omega arith);
+    turn = t.turn;
     pinned_is = t.pinned_is;
     settled = t.settled;
     silent = t.silent;

@@ -33,6 +33,10 @@ AreTaken passes rows from to more = (r : ℕ) → from ≤ r → r < to → (i w
 abbrev pub OnlyTaken : ℕ → ℕ → ℕ → ℕ → List Look → Type 0
 OnlyTaken passes rows from to more = (i : ℕ) (l : Look) → get_elem? more i ≡ some l → (r : ℕ) × (from ≤ r) × (r < to) × (0 < l.1) × (l.0 ≡ owner_at passes rows r)
 
+-- the pass looked at owners of these rows alone, and found each that it looked at taken
+abbrev pub LooksTaken : ℕ → ℕ → Known → Known → Type 0
+LooksTaken from to before after = (more : List Look) × (after ≡ having_looked more before) × OnlyTaken before.passes before.rows from to more
+
 -- After looks at owners of these rows, which were not 0, the pass took row r, one of these, which it did not hold and which is
 -- not in the tree that it has pinned
 abbrev pub Takes : ℕ → ℕ → ℕ → Known → Known → Type 0
@@ -51,7 +55,12 @@ abbrev pub Searches : ℕ → ℕ → Known → Known → Option ℕ → Type 0
 Searches from to before after None = FindsTaken from to before after
 Searches from to before after (Some r) = Takes from to r before after
 
--- what such a search does, by its answer, where no free row is recorded
+-- what a search does, by its answer, that looks at some of the rows before this one alone
+abbrev pub SearchesSome : ℕ → Known → Known → Option ℕ → Type 0
+SearchesSome to before after None = LooksTaken 0 to before after
+SearchesSome to before after (Some r) = Takes 0 to r before after
+
+-- what a search among all of them does, by its answer, where no free row is recorded
 abbrev pub SearchesOrFull : ℕ → Known → Known → Option ℕ → Type 0
 SearchesOrFull to before after None = (mid : Known) × FindsTaken 0 to before mid × (after ≡ recording shortage mid)
 SearchesOrFull to before after (Some r) = Takes 0 to r before after

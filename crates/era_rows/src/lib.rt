@@ -9,6 +9,7 @@
 #![tactic(auto)]
 
 mod accessors;
+mod freed;
 mod joins;
 mod law;
 mod laws;

@@ -5,6 +5,7 @@ ghost use Rattle.era_rows.specs.Ring.{pairs_in};
 ghost use Rattle.era_rows.specs.Held.{IsTied, HasRoom};
 ghost use Rattle.era_rows.specs.Memory.{Recalls};
 
+use crate::freed::Freed;
 use crate::law::Law;
 use crate::memory::{MEMORY_PLACES, MEMORY_WORDS};
 use crate::views::Knows;
@@ -16,7 +17,9 @@ use std::collections::VecDeque;
 pub struct Pass<L: Law> {
     pub(crate) seat: Seat<(), Knows<L::Entry>>,
     pub(crate) number: u32,
-    // Where the next search for a free row begins.
+    // Rows that it freed last, which it tries first.
+    pub(crate) freed: Freed,
+    // Where the search for a free row goes on after these.
     pub(crate) next: u32,
     pub(crate) pinned: Option<(u64, u32)>,
     pub(crate) fresh: Vec<u32>,

@@ -5,6 +5,7 @@ ghost use Rattle.era_rows.specs.Passes.{IsStarted, started_known};
 ghost use mathlib.Core.Option.{some};
 ghost use lib.ListN.{get_elem?};
 
+use crate::freed::Freed;
 use crate::law::Law;
 use crate::memory::MEMORY_PLACES;
 use crate::pass::Pass;
@@ -63,6 +64,7 @@ impl<L: Law> Rows<L> {
         Ok(Pass {
             seat,
             number,
+            freed: Freed::none(),
             next: number * self.rows / self.passes,
             pinned: None,
             fresh: Vec::with_capacity(alloc, rows)?,

@@ -5,7 +5,7 @@ ghost use Rattle.era_core.specs.Words.{owner_at};
 ghost use Rattle.era_rows.specs.Known.{finding, taking_row, recording};
 ghost use Rattle.era_rows.specs.Held.{IsAlone, IsOwn};
 ghost use Rattle.era_rows.specs.Plays.{IsUnused};
-ghost use Rattle.era_rows.specs.Passes.{known_of, IsPassOf, HasSame, Searches, SearchesOrFull, giving_back};
+ghost use Rattle.era_rows.specs.Passes.{known_of, IsPassOf, HasSame, Searches, SearchesSome, SearchesOrFull, giving_back};
 
 use crate::law::Law;
 use crate::pass::Pass;
@@ -20,6 +20,7 @@ impl<L: Law> Rows<L> {
         requires pass { IsPassOf self.now pass.old }
         ensures pass { IsPassOf self.now pass.new }
         ensures same { HasSame pass.old pass.new }
+        ensures freed { pass.new.freed ≡ pass.old.freed }
         ensures next { pass.new.next ≡ pass.old.next }
         ensures taken { IsTrue result → (known_of pass.new ≡ taking_row row (known_of pass.old)) × IsUnused row (known_of pass.old) }
         ensures busy { result ≡ false → (w : ℕ) × (0 < w) × (known_of pass.new ≡ recording M.full (finding (owner_at self.now.passes self.now.rows row) w (known_of pass.old))) }
@@ -55,6 +56,21 @@ impl<L: Law> Rows<L> {
         None
     }
 
+    // Takes one of the rows that the pass freed last, the last one first. Those that it tries are no longer kept.
+    fn take_freed(&self, pass: &mut Pass<L>) -> Option<u32>
+        requires { IsPassOf self.now pass.old }
+        ensures pass { IsPassOf self.now pass.new }
+        ensures same { HasSame pass.old pass.new }
+        ensures searched { SearchesSome self.now.rows (known_of pass.old) (known_of pass.new) result }
+    {
+        while let Some(row) = pass.freed.pop() {
+            if row < self.rows && self.try_take::<Goes>(pass, row) {
+                return Some(row);
+            }
+        }
+        None
+    }
+
     // Takes the first row that has no owner, from where the last one was found on.
     fn take_in_turn(&self, pass: &mut Pass<L>) -> Option<u32>
         requires { IsPassOf self.now pass.old }
@@ -69,15 +85,18 @@ impl<L: Law> Rows<L> {
         self.take_among(pass, 0, next)
     }
 
-    /// Takes a free row, which is in no pinned tree: see [`free_rows_are_unused`](crate::free_rows_are_unused). The search goes
-    /// on from the row after the one that was taken last, or from a row that was freed since then. The answer is None only where
-    /// this call found an owner in each row.
+    /// Takes a free row, which is in no pinned tree: see [`free_rows_are_unused`](crate::free_rows_are_unused). The search begins
+    /// with the rows that this pass freed last, the last one first, and goes on from the row after the last one that it took
+    /// otherwise. The answer is None only where this call found an owner in each row.
     pub fn take(&self, pass: &mut Pass<L>) -> Option<u32>
         requires { IsPassOf self.now pass.old }
         ensures pass { IsPassOf self.now pass.new }
         ensures same { HasSame pass.old pass.new }
         ensures searched { Searches 0 self.now.rows (known_of pass.old) (known_of pass.new) result }
     {
+        if let Some(row) = self.take_freed(pass) {
+            return Some(row);
+        }
         let row = self.take_in_turn(pass)?;
         pass.next = row + 1;
         Some(row)
@@ -125,7 +144,7 @@ impl<L: Law> Rows<L> {
     }
 
     /// Gives a fresh row of the pass back, in a time that does not grow with its fresh rows if it is the one that was taken last.
-    /// The next search begins at that row.
+    /// The next search begins with that row.
     pub fn give_back(&self, pass: &mut Pass<L>, row: u32)
         requires pass { IsPassOf self.now pass.old }
         requires fresh { In row (known_of pass.old).core.fresh }
@@ -137,7 +156,7 @@ impl<L: Law> Rows<L> {
         self.table.shared.store::<Free>(&mut pass.seat, at, 0);
         drop_row(&mut pass.fresh, row);
         pass.loose[row as usize] = false;
-        pass.next = row;
+        pass.freed.push(row);
     }
 }
 

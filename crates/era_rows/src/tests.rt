@@ -128,33 +128,43 @@ fn keeps_a_work_list(rt: HostRuntime) -> Result<(), AllocError> {
     Ok(())
 }
 
-// The row that a pass takes, and the one that it takes after it gave that one back.
-fn take_twice(rows: &Rows<AnyTree>, pass: &mut Pass<AnyTree>) -> (Option<u32>, Option<u32>)
+// Gives a row back, if it is a fresh one.
+fn give_back_fresh(rows: &Rows<AnyTree>, pass: &mut Pass<AnyTree>, row: u32)
     requires { IsPassOf rows.now pass.old }
+    ensures { IsPassOf rows.now pass.new }
 {
-    let first = rows.take(pass);
-    if let Some(row) = first {
+    if row < rows.rows() && rows.is_fresh(pass, row) {
         rows.give_back(pass, row);
     }
-    (first, rows.take(pass))
+}
+
+// The rows that a pass takes: two, and two more after it gave these back, the first one first.
+fn take_two_again(rows: &Rows<AnyTree>, pass: &mut Pass<AnyTree>) -> Option<[u32; 4]>
+    requires { IsPassOf rows.now pass.old }
+{
+    let first = rows.take(pass)?;
+    let second = rows.take(pass)?;
+    give_back_fresh(rows, pass, first);
+    give_back_fresh(rows, pass, second);
+    Some([first, second, rows.take(pass)?, rows.take(pass)?])
 }
 
 // What pass k of two takes so among 64 rows.
-fn pass_takes(alloc: Global, k: usize) -> Result<(Option<u32>, Option<u32>), AllocError>
+fn pass_takes(alloc: Global, k: usize) -> Result<Option<[u32; 4]>, AllocError>
     requires { k < 2 }
 {
     let (rows, mut passes): (Rows<AnyTree>, Vec<Pass<AnyTree>>) = Rows::start(alloc, 0, 64, 2)?;
-    Ok(take_twice(&rows, &mut passes[k]))
+    Ok(take_two_again(&rows, &mut passes[k]))
 }
 
 #[test]
-fn searches_begin_apart_and_where_a_row_was_freed(rt: HostRuntime) -> Result<(), AllocError> {
+fn searches_begin_apart_and_with_the_rows_freed_last(rt: HostRuntime) -> Result<(), AllocError> {
     assert!(&rt;
-        pass_takes(rt.alloc(), 0)? == (Some(1), Some(1)),
-        "row 0 is version 0, so the first pass takes row 1"
+        pass_takes(rt.alloc(), 0)? == Some([1, 2, 2, 1]),
+        "row 0 is version 0, so the first pass takes rows 1 and 2, and then the one freed last first"
     );
     assert!(&rt;
-        pass_takes(rt.alloc(), 1)? == (Some(32), Some(32)),
+        pass_takes(rt.alloc(), 1)? == Some([32, 33, 33, 32]),
         "the second of two passes begins at the middle"
     );
     Ok(())

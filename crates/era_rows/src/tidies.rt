@@ -42,7 +42,7 @@ impl<L: Law> Rows<L> {
         least
     }
 
-    // Frees the retired row that waits longest, where a whole scan has cleared its version. The next search begins there.
+    // Frees the retired row that waits longest, where a whole scan has cleared its version. The next search begins with that row.
     fn free_oldest(&self, pass: &mut Pass<L>)
         requires pass { IsPassOf self.now pass.old }
         requires scanned { (known_of pass.old).core.scanned ≡ self.now.passes }
@@ -57,7 +57,7 @@ impl<L: Law> Rows<L> {
         let row = (word % ROOT_ROWS) as u32;
         let place = self.owner_place(row);
         self.table.shared.store::<Free>(&mut pass.seat, place, 0);
-        pass.next = row;
+        pass.freed.push(row);
     }
 
     // Frees each retired row whose version a whole scan has cleared, those that wait longest: how many.
@@ -80,7 +80,7 @@ impl<L: Law> Rows<L> {
     }
 
     /// Looks at each reservation once, and frees each batch of the pass that none of them blocks: how many rows are freed. It
-    /// looks at no batch behind the first that is blocked. The next search begins at a row that was freed, if one was.
+    /// looks at no batch behind the first that is blocked. The next search begins with rows that were freed, if any were.
     pub fn tidy(&self, pass: &mut Pass<L>) -> u32
         requires { IsPassOf self.now pass.old }
         ensures pass { IsPassOf self.now pass.new }
