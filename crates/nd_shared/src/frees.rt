@@ -9,6 +9,9 @@ use crate::tree::{Tree, TreePass};
 // One in so many rows may wait at each pass.
 const WAITING: u32 = 8;
 
+// So many rows wait at most at each pass before it frees what it can, so that rows are taken again soon after their last use.
+const MOST_WAITING: u32 = 32;
+
 impl Tree {
     // Frees the retired rows that no pass can read, where many wait.
     pub(crate) fn free_many(&self, pass: &mut TreePass)
@@ -19,7 +22,8 @@ impl Tree {
         ensures reads { (rows : List ℕ) → ReadsNone rows (known_of pass.old) (known_of pass.new) }
         ensures waits { FewWait self.now.rows.rows self.now.rows.passes (known_of pass.new) }
     {
-        if self.rows.waiting(pass) > self.rows.rows() / (WAITING * self.rows.passes()) {
+        let most = (self.rows.rows() / (WAITING * self.rows.passes())).min(MOST_WAITING);
+        if self.rows.waiting(pass) > most {
             self.rows.tidy(pass);
         }
     }
