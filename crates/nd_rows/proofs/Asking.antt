@@ -10,7 +10,7 @@ use Rattle.pls_archive.specs.declared.point.Point.{Point}
 use Rattle.pls_archive.specs.Lists as lists
 use Rattle.pls_archive.proofs.Every.{In-right}
 use Rattle.nd_rows.specs.declared.question.Question.{Question}
-use Rattle.nd_rows.specs.Nodes.{Nodes, no_nodes, leaf, inner, rows_with, points_of, followed_by, is_mixed, necessary}
+use Rattle.nd_rows.specs.Nodes.{Nodes, no_nodes, leaf, inner, rows_with, points_of, followed_by, AreFormed, is_mixed, necessary}
 use Rattle.nd_rows.specs.Walk.{meets, some_meets, Asks, Asked, AreOnList, AreLeft, points_below, kids_of, later_of, is_open}
 use Rattle.nd_rows.proofs.Following as followed
 use Rattle.nd_rows.proofs.Left.{left_first, left_none, left_later, left_kids}
@@ -26,6 +26,17 @@ kids_same ns same = followed.points-followed (kids_of ns) (later_of ns) ∙ ap (
 later_below : (ns : Nodes) (p : Point) → lists.In p (points_of (later_of ns)) → lists.In p (points_of ns)
 later_below ns p here = subst (lists.In p) (sym (points_first ns)) (In-right p (points_below ns) (points_of (later_of ns)) here)
 
+module _ (objectives : ℕ) where
+  later_formed : (ns : Nodes) → AreFormed objectives ns → AreFormed objectives (later_of ns)
+  later_formed no_nodes formed = tt
+  later_formed (leaf r b placed later) formed = formed.2
+  later_formed (inner r b kids later) formed = formed.4
+
+  kids_formed : (ns : Nodes) → AreFormed objectives ns → AreFormed objectives (followed_by (kids_of ns) (later_of ns))
+  kids_formed no_nodes formed = tt
+  kids_formed (leaf r b placed later) formed = formed.2
+  kids_formed (inner r b kids later) formed = followed.formed-followed objectives kids later formed.3 formed.4
+
 module _ (v : List ℤ) where
   later_necessary : (ns : Nodes) (x : ℕ) → In x (necessary v (later_of ns)) → In x (necessary v ns)
   later_necessary no_nodes x here = here
@@ -40,8 +51,8 @@ module _ (v : List ℤ) where
 
 module _ (objectives : ℕ) (c : Copy) (ask : Question) (v : List ℤ) where
   -- at the start
-  pub asked_none : (rows : ℕ) (work : List ℕ) (ns : Nodes) → AreOnList objectives c rows work ns → Asked objectives c ask v ns 0 work
-  asked_none rows work ns is = record { left = ns; are_left = left_first objectives c rows work ns is; same_answer = refl; needed = λ x here. here; below = λ p here. here }
+  pub asked_none : (rows : ℕ) (work : List ℕ) (ns : Nodes) → AreFormed objectives ns → AreOnList objectives c rows work ns → Asked objectives c ask v ns 0 work
+  asked_none rows work ns formed is = record { left = ns; are_left = left_first objectives c rows work ns is; formed = formed; same_answer = refl; needed = λ x here. here; below = λ p here. here }
 
   module _ (ns : Nodes) (k : ℕ) (work : List ℕ) (asked : Asked objectives c ask v ns k work) where
     -- nothing is left
@@ -64,6 +75,7 @@ module _ (objectives : ℕ) (c : Copy) (ask : Question) (v : List ℤ) where
       asked_more (Some answer) after not_yes asks = record {
         left = later_of asked.left;
         are_left = subst (λ ws. AreLeft objectives c ns (k + 1) ws (later_of asked.left)) (sym asks.1) (left_later objectives c ns k work asked.left asked.are_left row rest top);
+        formed = later_formed objectives asked.left asked.formed;
         same_answer =
             sym (ap (λ points. some_meets ask points v) (points_first asked.left)
             ∙ list_any-append (λ p. meets ask p.value v) (points_below asked.left) (points_of (later_of asked.left))
@@ -75,6 +87,7 @@ module _ (objectives : ℕ) (c : Copy) (ask : Question) (v : List ℤ) where
       asked_more None after not_yes asks = record {
         left = followed_by (kids_of asked.left) (later_of asked.left);
         are_left = left_kids objectives c ns k work asked.left asked.are_left row rest top after asks.2;
+        formed = kids_formed objectives asked.left asked.formed;
         same_answer =
             ap (λ points. some_meets ask points v) (kids_same asked.left asks.0) ∙ asked.same_answer;
         needed = λ x here. asked.needed x (kids_necessary v asked.left asks.1 x here);

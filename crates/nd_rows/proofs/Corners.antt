@@ -12,7 +12,7 @@ use Rattle.pls_archive.specs.Lists.{Every}
 use Rattle.nd_rows.specs.declared.question.Question.{Question}
 use Rattle.nd_rows.specs.declared.question.Question.TheVariants.{Covers, Equals}
 use Rattle.nd_rows.specs.Nodes.{Encloses, undecided, is_mixed}
-use Rattle.nd_rows.specs.Walk.{meets, some_meets, box_answer, equal_answer, box_told}
+use Rattle.nd_rows.specs.Walk.{sided, meets, some_meets, box_answer, equal_answer, box_told}
 
 module _ (b : Box) (v : List ℤ) where
   abbrev IsIn : Point → Type 0
@@ -94,6 +94,22 @@ box_tells Covers b v points some box answer is =
     covers_by b v points some box (weakly_dominates b.nadir v) (weakly_dominates v b.nadir) (weakly_dominates b.ideal v) (weakly_dominates v b.ideal) refl refl refl answer is
 box_tells Equals b v points some box answer is =
     equals_by b v points some box (weakly_dominates v b.nadir) (weakly_dominates b.nadir v) (weakly_dominates b.ideal v) (weakly_dominates v b.ideal) refl refl refl refl answer is
+
+-- the corners of a box that encloses a point
+pub corners_of : (b : Box) (points : List Point) → 0 < length points → Encloses b points → IsTrue (weakly_dominates b.ideal b.nadir)
+corners_of b [] some box = absurd (omega (arith, some))
+corners_of b (p ∷ points) some box =
+    let inside = and_parts (weakly_dominates b.ideal p.value) _ box.all.0 in weakly_dominates-trans b.ideal p.value b.nadir inside.0 inside.1
+
+-- where its ideal does not weakly dominate the value, its nadir does not either
+pub under_ideal : (b : Box) (v : List ℤ) → IsTrue (weakly_dominates b.ideal b.nadir) → None ≡ sided b.ideal v → Some false ≡ box_told Covers b v
+under_ideal b v corners = by_tests (weakly_dominates b.ideal v) (weakly_dominates b.nadir v) (weakly_dominates-trans b.ideal b.nadir v corners)
+  where
+    by_tests : (i n : Bool) → (n ≡ true → i ≡ true) → None ≡ (if i then Some (weakly_dominates v b.ideal) else None)
+        → Some false ≡ box_answer (if n then Some (weakly_dominates v b.nadir) else None) (if i then Some (weakly_dominates v b.ideal) else None)
+    by_tests true n up none = absurd (none-some (weakly_dominates v b.ideal) none)
+    by_tests false true up none = absurd (true≢false (sym (up refl)))
+    by_tests false false up none = refl
 
 abbrev mixed_by : Bool → Bool → Bool → Bool → Bool
 mixed_by n o i i' = undecided (if n then AllCover else if i' then CoversAll else if not i && not o then Apart else Mixed)

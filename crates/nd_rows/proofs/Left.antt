@@ -26,7 +26,7 @@ nothing_left [] none = refl
 nothing_left (x ∷ xs) none = absurd (omega arith)
 
 -- a list that begins with a row
-begins : (ns : Nodes) (row : ℕ) (rest : List ℕ) → heads ns ≡ row ∷ rest → (heads ns ≡ row ∷ heads (later_of ns)) × (heads (later_of ns) ≡ rest)
+pub begins : (ns : Nodes) (row : ℕ) (rest : List ℕ) → heads ns ≡ row ∷ rest → (heads ns ≡ row ∷ heads (later_of ns)) × (heads (later_of ns) ≡ rest)
 begins no_nodes row rest e = absurd (nothing_first _ _ e)
 begins (leaf r b placed later) row rest e = (ap (λ x. x ∷ heads later) (first_is _ _ r row e), ap (drop 1) e)
 begins (inner r b kids later) row rest e = (ap (λ x. x ∷ heads later) (first_is _ _ r row e), ap (drop 1) e)

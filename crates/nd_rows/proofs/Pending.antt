@@ -1,16 +1,17 @@
 -- Nodes that are pending: what stands in the row of the first, and what asking it tells.
-use Rattle.std.proofs.Common.{◌≡◌, ℕ, suc, ◌+◌, ◌*◌, ◌/◌, ◌%◌, length-append, ◌<◌, ◌≤◌, ⊎_elim, Bool, true, false, Some, None, List, [], ◌∷◌, ◌++◌, length, get_or, reverse, refl, sym, ap, subst, ◌∙◌, arith, ℤ}
+use Rattle.std.proofs.Common.{◌≡◌, ℕ, suc, ◌+◌, ◌*◌, ◌/◌, ◌%◌, length-append, ◌<◌, ◌≤◌, ⊎_elim, Bool, true, IsTrue, Option, Some, None, List, [], ◌∷◌, ◌++◌, length, get_or, reverse, refl, sym, ap, ap₂, subst, ◌∙◌, arith, ℤ}
 use Rattle.std.specs.Prelude.{if◌then◌else◌}
 use Rattle.std.proofs.lemmas.Option.{same_Some}
 use Rattle.era_core.specs.Lists.{In}
 use Rattle.era_core.specs.Versions.{Copy, look_up}
 use Rattle.era_core.proofs.ListFacts.{in_head, in_tail, in_cases, in-append_left}
 use Rattle.pls_vectors.specs.Box.{Box}
+use Rattle.pls_vectors.specs.Dominance.{weakly_dominates}
 use Rattle.nd_rows.specs.declared.question.Question.{Question}
-use Rattle.nd_rows.specs.Nodes.{Placed, Nodes, no_nodes, leaf, inner, heads, rows_of, rows_with, points_of, points_with, AreFormed, Encloses, is_mixed, necessary}
+use Rattle.nd_rows.specs.Nodes.{Placed, Nodes, no_nodes, leaf, inner, heads, rows_of, rows_with, points_of, points_with, AreFormed, IsEmptyLeaf, Encloses, is_mixed, necessary}
 use Rattle.nd_rows.specs.Layout.{IsLinkRow, IsBoxRow}
-use Rattle.nd_rows.specs.Walk.{some_meets, box_told, HasPlaced, BeginAt, Asks, points_below, kids_of, is_open}
-use Rattle.nd_rows.proofs.Corners.{box_tells, box_open}
+use Rattle.nd_rows.specs.Walk.{some_meets, box_told, HasPlaced, BeginAt, Asks, points_below, kids_of, later_of, is_open}
+use Rattle.nd_rows.proofs.Corners.{corners_of, box_tells, box_open}
 
 -- the links of the first node, its kind and its box
 abbrev pub links_of : Nodes → List ℕ
@@ -88,6 +89,12 @@ module _ (objectives : ℕ) (c : Copy) (row : ℕ) where
   pub placed_among : (placed : List Placed) → In row c.rows → HasPlaced objectives c row placed → (x : ℕ) → In x (row ∷ rows_with placed) → In x c.rows
   placed_among placed here has x is = ⊎_elim (λ e. subst (λ y. In y c.rows) (sym e) here) (has.among x) (in_cases x row (rows_with placed) is)
 
+-- the first of nodes that have points below them has links
+pub some_links : (objectives : ℕ) (ns : Nodes) (row : ℕ) → AreFormed objectives ns → heads ns ≡ row ∷ heads (later_of ns) → 0 < length (links_of ns)
+some_links objectives no_nodes row formed here = absurd (nothing_first _ _ here)
+some_links objectives (leaf r b placed later) row formed here = let one = formed.0 in let n = length_rows placed in omega arith
+some_links objectives (inner r b kids later) row formed here = let two = formed.0 in omega arith
+
 -- a node has a point below it
 some_points : (objectives : ℕ) (ns : Nodes) → AreFormed objectives ns → 0 < length (heads ns) → 0 < length (points_of ns)
 some_points objectives no_nodes formed some = absurd (omega arith)
@@ -108,21 +115,28 @@ module _ (objectives : ℕ) (c : Copy) (row : ℕ) (v : List ℤ) where
   boxed_there (inner r b kids later) at = at.pending.boxed.0
 
   -- what its box answers
-  pub box_asks : (ask : Question) → (ns : Nodes) → BeginAt objectives c row ns → 0 < length (links_of ns) → (answer : Bool)
+  box_asks : (ask : Question) → (ns : Nodes) → BeginAt objectives c row ns → 0 < length (links_of ns) → (answer : Bool)
       → Some answer ≡ box_told ask (box_of_first ns) v → some_meets ask (points_below ns) v ≡ answer
   box_asks ask ns at some answer is = box_tells ask (box_of_first ns) v (points_below ns) (points_there ns at some) (boxed_there ns at) answer (sym is)
 
-  pub box_opens : (ask : Question) → (ns : Nodes) → BeginAt objectives c row ns → None ≡ box_told ask (box_of_first ns) v → is_open v ns ≡ true
+  box_opens : (ask : Question) → (ns : Nodes) → BeginAt objectives c row ns → None ≡ box_told ask (box_of_first ns) v → is_open v ns ≡ true
   box_opens ask no_nodes at is = absurd (nothing_first _ _ at.here)
   box_opens ask (leaf r b placed later) at is = box_open ask b v (sym is)
   box_opens ask (inner r b kids later) at is = box_open ask b v (sym is)
 
-  -- a node without links is an empty leaf
-  pub none_below : (ask : Question) → (ns : Nodes) → BeginAt objectives c row ns → length (links_of ns) ≡ 0 → some_meets ask (points_below ns) v ≡ false
-  none_below ask no_nodes at none = refl
-  none_below ask (leaf r b [] later) at none = refl
-  none_below ask (leaf r b (p ∷ placed) later) at none = absurd (omega arith)
-  none_below ask (inner r b kids later) at none = absurd (⊎_elim (λ empty. empty) (λ formed. let two = formed.0 in omega arith) at.pending.formed)
+  -- what was told of its box, where it has points below it
+  module _ (ask : Question) (ns : Nodes) (formed : AreFormed objectives ns) (at : BeginAt objectives c row ns) (told : Option Bool)
+      (tells : (b : Box) → IsBoxRow objectives c.cells row b → IsTrue (weakly_dominates b.ideal b.nadir) → told ≡ box_told ask b v) where
+    told_first : told ≡ box_told ask (box_of_first ns) v
+    told_first =
+        let some = some_links objectives ns row formed at.here in
+        tells (box_of_first ns) (box_row objectives c row ns at some) (corners_of (box_of_first ns) (points_below ns) (points_there ns at some) (boxed_there ns at))
+
+    pub told_answer : (answer : Bool) → told ≡ Some answer → some_meets ask (points_below ns) v ≡ answer
+    told_answer answer is = box_asks ask ns at (some_links objectives ns row formed at.here) answer (sym is ∙ told_first)
+
+    pub told_nothing : told ≡ None → is_open v ns ≡ true
+    told_nothing is = box_opens ask ns at (sym is ∙ told_first)
 
   -- the points of a leaf answer for it
   pub leaf_asks : (ask : Question) → (ns : Nodes) (first : ℕ) → BeginAt objectives c row ns → look_up c.cells row 0 ≡ Some first → first % 4 ≡ 0 → (answer : Bool) (before after : List ℕ)
@@ -163,6 +177,24 @@ module _ (objectives : ℕ) (c : Copy) (row : ℕ) (ns : Nodes) (first : ℕ) (a
 
   pub links_count : length (links_of ns) ≡ first / 4
   links_count = let e = first_word objectives c row ns first at there in let low = low_kind ns in omega arith
+
+  -- it has none where it is a leaf without points, alone
+  pub linked_formed : (first / 4 ≡ 0 → ⊥) → AreFormed objectives ns
+  linked_formed linked = ⊎_elim (λ empty. absurd (linked (sym links_count ∙ unlinked ns empty))) (λ formed. formed) at.pending.formed
+    where
+      unlinked : (ns : Nodes) → IsEmptyLeaf ns → length (links_of ns) ≡ 0
+      unlinked no_nodes empty = absurd empty
+      unlinked (leaf r b placed later) empty = ap (λ (ps : List Placed). length (rows_with ps)) empty.0
+      unlinked (inner r b kids later) empty = absurd empty
+
+  pub unlinked_points : first / 4 ≡ 0 → points_of ns ≡ []
+  unlinked_points none =
+      ⊎_elim (empty_points ns) (λ formed. absurd (let some = some_links objectives ns row formed at.here in let n = links_count in omega arith)) at.pending.formed
+    where
+      empty_points : (ns : Nodes) → IsEmptyLeaf ns → points_of ns ≡ []
+      empty_points no_nodes empty = refl
+      empty_points (leaf r b placed later) empty = ap₂ (λ ps ns. points_with ps ++ points_of ns) empty.0 empty.1
+      empty_points (inner r b kids later) empty = absurd empty
 
   pub count_small : first / 4 ≤ 39
   count_small = let e = links_count in let few = few_links objectives c row ns at in omega arith

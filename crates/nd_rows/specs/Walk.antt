@@ -132,10 +132,12 @@ pub record IsRowOf (objectives : ℕ) (c : Copy) (rows : List ℕ) (points : Lis
 abbrev pub Finds : ℕ → Copy → List ℕ → List Point → Option ℕ → Option ℕ → Type 0
 Finds objectives c rows points before after = (after ≡ before) ⊎ ((row : ℕ) × (after ≡ Some row) × IsRowOf objectives c rows points row)
 
--- After k nodes were asked, those that are left answer the question as those at the start do, and have and need no other rows
+-- After k nodes were asked, those that are left answer the question as those at the start do, and have and need no other rows; each
+-- of them has points below it
 pub record Asked (objectives : ℕ) (c : Copy) (ask : Question) (v : List ℤ) (ns : Nodes) (k : ℕ) (work : List ℕ) : Type 0 where
   pub left : Nodes
   pub are_left : AreLeft objectives c ns k work left
+  pub formed : AreFormed objectives left
   pub same_answer : some_meets ask (points_of left) v ≡ some_meets ask (points_of ns) v
   pub needed : (x : ℕ) → In x (necessary v left) → In x (necessary v ns)
   pub below : (p : Point) → lists.In p (points_of left) → lists.In p (points_of ns)

@@ -12,12 +12,15 @@ ghost use Rattle.nd_rows.specs.Reads.{HasPinnedTree, HasKept, LooksIn, ReadsNece
 
 use crate::law::NdLaw;
 use crate::question::Question;
+use crate::reads::word;
 use crate::remembers::remember_row;
 use crate::walk::ask_pending;
+use era_core::KINDS;
 use era_rows::{Pass, Rows};
 use pls_vectors::Vector;
 
-// Asks the question of the points of the pinned version: whether one answers it, and its row where it was looked at.
+// Asks the question of the points of the pinned version: whether one answers it, and its row where it was looked at. Only a leaf
+// without points, alone, has no box: it is known by the word 0 of the root.
 fn ask(
     rows: &Rows<NdLaw>,
     pass: &mut Pass<NdLaw>,
@@ -35,6 +38,10 @@ fn ask(
     let Some(pin) = rows.pinned(pass) else {
         unreachable!()
     };
+    let first = word(rows, pass, pin.1, 0);
+    if first / KINDS == 0 {
+        return (false, None);
+    }
     pass.work_push(pin.1 as u64);
     let mut found = None;
     let yes = ask_pending(rows, pass, value, question, &mut found);

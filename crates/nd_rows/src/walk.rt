@@ -1,12 +1,13 @@
 //! The walk of a question over the nodes of the pinned version.
-ghost use Rattle.std.specs.Prelude.{◌≡◌, ℕ, ℤ, ◌+◌, ◌*◌, ◌<◌, ◌≤◌, true, Some, None, IfSome, List, [], ◌∷◌, ◌++◌, is_some, length, reverse};
+ghost use Rattle.std.specs.Prelude.{◌≡◌, ℕ, ℤ, ◌+◌, ◌*◌, ◌<◌, ◌≤◌, true, IsTrue, Some, None, IfSome, List, [], ◌∷◌, ◌++◌, is_some, length, reverse};
 ghost use Rattle.era_core.specs.Lists.{In};
 ghost use Rattle.era_core.specs.Versions.{look_up};
 ghost use Rattle.era_rows.specs.Known.{pinned_copy};
 ghost use Rattle.era_rows.specs.Passes.{known_of, work_of, IsPassOf};
 ghost use Rattle.pls_vectors.specs.Box.{Box};
+ghost use Rattle.pls_vectors.specs.Dominance.{weakly_dominates};
 ghost use Rattle.nd_rows.specs.Layout.{HasWords, IsBoxRow};
-ghost use Rattle.nd_rows.specs.Nodes.{Placed, Nodes, rows_with, points_with, necessary, heads, rows_of, points_of};
+ghost use Rattle.nd_rows.specs.Nodes.{Placed, Nodes, rows_with, points_with, necessary, heads, rows_of, points_of, AreFormed};
 ghost use Rattle.nd_rows.specs.Reads.{LooksIn};
 ghost use Rattle.nd_rows.specs.Walk.{some_meets, point_answer, box_answer, equal_answer, box_told, HasPlaced, BeginAt, Asks, AreOnList, IsRowOf, Finds, is_open, kids_of};
 ghost use Rattle.nd_rows.specs.declared.question.Question.TheVariants.{Covers, Equals};
@@ -19,27 +20,28 @@ use era_core::{KINDS, MOST_ROWS};
 use era_rows::{Pass, Rows};
 use pls_vectors::Vector;
 
-// What the ideal tells where the nadir does not cover the value.
-fn by_ideal(ideal: Option<bool>) -> Option<bool>
-    ensures { result ≡ box_answer None ideal }
+// What the nadir tells where the ideal covers the value.
+fn by_nadir(at_ideal: bool, nadir: Option<bool>) -> Option<bool>
+    ensures { result ≡ box_answer nadir (Some at_ideal) }
 {
-    match ideal {
-        None => Some(false),
-        Some(equal) => { if equal { Some(false) } else { None } }
+    match nadir {
+        Some(_) => Some(true),
+        None => { if at_ideal { Some(false) } else { None } }
     }
 }
 
-// What the box of a node tells: whether some point in it covers the value, or nothing.
+// What the box of a node tells: whether some point in it covers the value, or nothing. The ideal is read first: where it does not
+// cover the value, as at most nodes, no point in the box does.
 fn ask_covers(rows: &Rows<NdLaw>, pass: &mut Pass<NdLaw>, row: u32, value: &Vector) -> Option<bool>
     requires pass { IsPassOf rows.now pass.old }
     requires row { In row (pinned_copy (known_of pass.old)).rows }
     ensures looks { LooksIn rows.now (row ∷ []) pass.old pass.new }
     ensures work { work_of pass.new ≡ work_of pass.old }
-    ensures answer { (b : Box) → IsBoxRow (length value.now) (pinned_copy (known_of pass.old)).cells row b → result ≡ box_told Covers b value.now }
+    ensures answer { (b : Box) → IsBoxRow (length value.now) (pinned_copy (known_of pass.old)).cells row b → IsTrue (weakly_dominates b.ideal b.nadir) → result ≡ box_told Covers b value.now }
 {
-    match sided(rows, pass, row, NADIR, value, false) {
-        Some(_) => Some(true),
-        None => by_ideal(sided(rows, pass, row, IDEAL, value, false)),
+    match sided(rows, pass, row, IDEAL, value, false) {
+        None => Some(false),
+        Some(at_ideal) => by_nadir(at_ideal, sided(rows, pass, row, NADIR, value, false)),
     }
 }
 
@@ -86,7 +88,7 @@ fn ask_box(
     requires row { In row (pinned_copy (known_of pass.old)).rows }
     ensures looks { LooksIn rows.now (row ∷ []) pass.old pass.new }
     ensures work { work_of pass.new ≡ work_of pass.old }
-    ensures answer { (b : Box) → IsBoxRow (length value.now) (pinned_copy (known_of pass.old)).cells row b → result ≡ box_told question b value.now }
+    ensures answer { (b : Box) → IsBoxRow (length value.now) (pinned_copy (known_of pass.old)).cells row b → IsTrue (weakly_dominates b.ideal b.nadir) → result ≡ box_told question b value.now }
 {
     match question {
         Question::Covers => ask_covers(rows, pass, row, value),
@@ -175,7 +177,7 @@ fn ask_below(
 }
 
 // Asks one node: whether a point below it answers the question, or nothing where its children are to be asked. A point that was
-// looked at and answers it is found.
+// looked at and answers it is found. Its box is read first, and its word 0 only where the box leaves the question open.
 fn ask_node(
     rows: &Rows<NdLaw>,
     pass: &mut Pass<NdLaw>,
@@ -185,18 +187,17 @@ fn ask_node(
     found: &mut Option<u32>,
 ) -> Option<bool>
     requires pass { IsPassOf rows.now pass.old }
-    requires node { (ns : Nodes) × BeginAt (length value.now) (pinned_copy (known_of pass.old)) row ns × (length (work_of pass.old) + length (heads (kids_of ns)) ≤ 2 * rows.now.rows) }
-    ensures looks { (ns : Nodes) → BeginAt (length value.now) (pinned_copy (known_of pass.old)) row ns → LooksIn rows.now (necessary value.now ns) pass.old pass.new }
-    ensures asks { (ns : Nodes) → BeginAt (length value.now) (pinned_copy (known_of pass.old)) row ns → Asks question value.now ns result (work_of pass.old) (work_of pass.new) }
-    ensures finds { (ns : Nodes) → BeginAt (length value.now) (pinned_copy (known_of pass.old)) row ns → Finds (length value.now) (pinned_copy (known_of pass.old)) (necessary value.now ns) (points_of ns) found.old found.new }
+    requires node { (ns : Nodes) × AreFormed (length value.now) ns × BeginAt (length value.now) (pinned_copy (known_of pass.old)) row ns × (length (work_of pass.old) + length (heads (kids_of ns)) ≤ 2 * rows.now.rows) }
+    ensures looks { (ns : Nodes) → AreFormed (length value.now) ns → BeginAt (length value.now) (pinned_copy (known_of pass.old)) row ns → LooksIn rows.now (necessary value.now ns) pass.old pass.new }
+    ensures asks { (ns : Nodes) → AreFormed (length value.now) ns → BeginAt (length value.now) (pinned_copy (known_of pass.old)) row ns → Asks question value.now ns result (work_of pass.old) (work_of pass.new) }
+    ensures finds { (ns : Nodes) → AreFormed (length value.now) ns → BeginAt (length value.now) (pinned_copy (known_of pass.old)) row ns → Finds (length value.now) (pinned_copy (known_of pass.old)) (necessary value.now ns) (points_of ns) found.old found.new }
 {
-    let first = word(rows, pass, row, 0);
-    if first / KINDS == 0 {
-        return Some(false);
-    }
     match ask_box(rows, pass, row, value, question) {
         Some(answer) => Some(answer),
-        None => ask_below(rows, pass, row, first, value, question, found),
+        None => {
+            let first = word(rows, pass, row, 0);
+            ask_below(rows, pass, row, first, value, question, found)
+        }
     }
 }
 
@@ -210,10 +211,10 @@ pub(crate) fn ask_pending(
     found: &mut Option<u32>,
 ) -> bool
     requires pass { IsPassOf rows.now pass.old }
-    requires nodes { (ns : Nodes) × AreOnList (length value.now) (pinned_copy (known_of pass.old)) rows.now.rows (work_of pass.old) ns }
-    ensures looks { (ns : Nodes) → AreOnList (length value.now) (pinned_copy (known_of pass.old)) rows.now.rows (work_of pass.old) ns → LooksIn rows.now (necessary value.now ns) pass.old pass.new }
-    ensures answer { (ns : Nodes) → AreOnList (length value.now) (pinned_copy (known_of pass.old)) rows.now.rows (work_of pass.old) ns → result ≡ some_meets question (points_of ns) value.now }
-    ensures finds { (ns : Nodes) → AreOnList (length value.now) (pinned_copy (known_of pass.old)) rows.now.rows (work_of pass.old) ns → Finds (length value.now) (pinned_copy (known_of pass.old)) (necessary value.now ns) (points_of ns) found.old found.new }
+    requires nodes { (ns : Nodes) × AreFormed (length value.now) ns × AreOnList (length value.now) (pinned_copy (known_of pass.old)) rows.now.rows (work_of pass.old) ns }
+    ensures looks { (ns : Nodes) → AreFormed (length value.now) ns → AreOnList (length value.now) (pinned_copy (known_of pass.old)) rows.now.rows (work_of pass.old) ns → LooksIn rows.now (necessary value.now ns) pass.old pass.new }
+    ensures answer { (ns : Nodes) → AreFormed (length value.now) ns → AreOnList (length value.now) (pinned_copy (known_of pass.old)) rows.now.rows (work_of pass.old) ns → result ≡ some_meets question (points_of ns) value.now }
+    ensures finds { (ns : Nodes) → AreFormed (length value.now) ns → AreOnList (length value.now) (pinned_copy (known_of pass.old)) rows.now.rows (work_of pass.old) ns → Finds (length value.now) (pinned_copy (known_of pass.old)) (necessary value.now ns) (points_of ns) found.old found.new }
     ensures work { work_of pass.new ≡ [] }
 {
     // Each node is asked once.
