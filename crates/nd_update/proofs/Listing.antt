@@ -90,6 +90,19 @@ module _ (v : List ℤ) where
     pending_left zero t p = p
     pending_left (suc k) t p = pending_next (left v k t) (pending_left k t p)
 
+  -- and have points below them
+  module _ (objectives : ℕ) where
+    formed_next : (ns : Nodes) → AreFormed objectives ns → AreFormed objectives (next v ns)
+    formed_next no_nodes formed = tt
+    formed_next (leaf r b placed later) formed = formed.2
+    formed_next (inner r b kids later) formed =
+        by_test (λ s. AreFormed objectives (followed_by later (if s then kids else no_nodes))) (weakly_dominates v b.nadir)
+        (λ over. formed-followed objectives later kids formed.4 formed.3) (λ under. formed-followed objectives later no_nodes formed.4 tt)
+
+    pub formed_left : (k : ℕ) (t : Nodes) → AreFormed objectives t → AreFormed objectives (left v k t)
+    formed_left zero t formed = formed
+    formed_left (suc k) t formed = formed_next (left v k t) (formed_left k t formed)
+
   -- ---- one node is looked at: its word, and the nodes that are left
   module _ (objectives : ℕ) (c : Copy) (row : ℕ) where
     -- nothing is below it
@@ -113,13 +126,13 @@ module _ (v : List ℤ) where
 
     module _ (first : ℕ) where
       -- it is a leaf, or an inner node
-      pub leaf_told : (ns : Nodes) → BeginAt objectives c row ns → look_up c.cells row 0 ≡ Some first → (first / 4 ≡ 0 → ⊥) → first % 4 ≡ 0 → weakly_dominates v (box_of_first ns).nadir ≡ true
+      pub leaf_told : (ns : Nodes) → BeginAt objectives c row ns → look_up c.cells row 0 ≡ Some first → AreFormed objectives ns → first % 4 ≡ 0 → weakly_dominates v (box_of_first ns).nadir ≡ true
           → (entry v ns ≡ leaf_word row) × (heads (next v ns) ≡ heads (later_of ns))
-      leaf_told no_nodes at there nonempty kind over = absurd (nothing_first _ _ at.here)
-      leaf_told (leaf r b [] later) at there nonempty kind over = absurd (nonempty (let e = first_word objectives c row (leaf r b [] later) first at there in omega (arith, e)))
-      leaf_told (leaf r b (p ∷ placed) later) at there nonempty kind over =
+      leaf_told no_nodes at there formed kind over = absurd (nothing_first _ _ at.here)
+      leaf_told (leaf r b [] later) at there formed kind over = absurd (let one = formed.0 in omega (arith, one))
+      leaf_told (leaf r b (p ∷ placed) later) at there formed kind over =
           (ap (λ t. if nat_lt 0 (length (p ∷ placed)) && t then leaf_word r else r) over ∙ ap (λ t. if t && true then leaf_word r else r) (lt-ltb 0 (length (p ∷ placed)) (omega arith)) ∙ ap leaf_word (first_is _ _ r row at.here), refl)
-      leaf_told (inner r b kids later) at there nonempty kind over = absurd (let e = first_word objectives c row (inner r b kids later) first at there in omega (arith, e, kind))
+      leaf_told (inner r b kids later) at there formed kind over = absurd (let e = first_word objectives c row (inner r b kids later) first at there in omega (arith, e, kind))
 
       pub inner_told : (ns : Nodes) → BeginAt objectives c row ns → look_up c.cells row 0 ≡ Some first → (first % 4 ≡ 0 → ⊥) → weakly_dominates v (box_of_first ns).nadir ≡ true
           → (entry v ns ≡ inner_word (first / 4) row) × (heads (next v ns) ≡ heads (later_of ns) ++ links_of ns)

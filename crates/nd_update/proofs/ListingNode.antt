@@ -1,5 +1,5 @@
 -- A pass looks at one node of its list: what it finds in its row, and what was done.
-use Rattle.std.proofs.Common.{◌≡◌, ℕ, zero, suc, ◌/◌, ◌<◌, ◌≤◌, Bool, true, false, Option, Some, List, [], ◌∷◌, length, take, refl, sym, ap, subst, ◌∙◌, arith, ℤ}
+use Rattle.std.proofs.Common.{◌≡◌, ℕ, ◌/◌, ◌<◌, ◌≤◌, Bool, true, false, Option, Some, List, [], ◌∷◌, length, take, sym, ap, subst, ◌∙◌, ℤ}
 use Rattle.std.specs.Prelude.{is_none}
 use Rattle.era_core.specs.Lists.{In}
 use Rattle.era_core.specs.Versions.{Copy, look_up}
@@ -11,12 +11,12 @@ use Rattle.era_rows.specs.declared.law.Law.{Ghosts}
 use Rattle.pls_archive.specs.declared.call.Entry.{Entry}
 use Rattle.pls_vectors.specs.Dominance.{weakly_dominates}
 use Rattle.nd_rows.specs.declared.layout.TheConstants.{NADIR}
-use Rattle.nd_rows.specs.Layout.{HasValue, IsBoxRow}
-use Rattle.nd_rows.specs.Nodes.{Nodes, heads}
+use Rattle.nd_rows.specs.Layout.{HasValue}
+use Rattle.nd_rows.specs.Nodes.{Nodes, heads, AreFormed}
 use Rattle.nd_rows.specs.Reads.{LooksIn}
 use Rattle.nd_rows.specs.Walk.{BeginAt, side_of}
 use Rattle.nd_rows.proofs.Looks.{row_small, row_there, stays}
-use Rattle.nd_rows.proofs.Pending.{links_of, box_of_first, row_among, first_there, links_count, count_small, box_row}
+use Rattle.nd_rows.proofs.Pending.{links_of, box_of_first, row_among, first_there, links_count, count_small, some_links, box_row}
 use Rattle.nd_update.specs.Building.{IsBuilding, Does}
 use Rattle.nd_update.specs.Needed.{ReadsOnly}
 use Rattle.nd_update.specs.Sweeps.{Lists}
@@ -51,33 +51,30 @@ module _ {L : Type 0} {G : Ghosts L Entry} (r : Rows L Entry) where
     pub node_small : row < 262144
     node_small = row_small p row node_row
 
-    module _ (first : ℕ) (word : (w : ℕ) → look_up (pinned_copy (known_of p)).cells row 0 ≡ Some w → first ≡ w) where
-      pub node_first : look_up (pinned_copy (known_of p)).cells row 0 ≡ Some first
-      node_first = first_there r.shape (pinned_copy (known_of p)) row ns node_begin first word
+    -- its nadir was read
+    module _ (v : List ℤ) (parts : length v ≡ r.shape) (formed : AreFormed r.shape ns) (side : Option Bool) (answer : (x : List ℤ) → HasValue (length v) (pinned_copy (known_of p)).cells row NADIR x → side ≡ side_of true x v) where
+      node_side : side ≡ side_of true (box_of_first ns).nadir v
+      node_side =
+          let box = box_row r.shape (pinned_copy (known_of p)) row ns node_begin (some_links r.shape ns row formed node_begin.here) in
+          answer (box_of_first ns).nadir (subst (λ n. HasValue n (pinned_copy (known_of p)).cells row NADIR (box_of_first ns).nadir) (sym parts) box.nadir)
 
-      pub node_few : first / 4 ≤ 39
-      node_few = count_small r.shape (pinned_copy (known_of p)) row ns first node_begin node_first
+      pub node_under : is_none side ≡ true → weakly_dominates v (box_of_first ns).nadir ≡ false
+      node_under none = side_none v (box_of_first ns).nadir (ap is_none (sym node_side) ∙ none)
 
-      pub node_links : length (links_of ns) ≡ first / 4
-      node_links = links_count r.shape (pinned_copy (known_of p)) row ns first node_begin node_first
+      pub node_over : is_none side ≡ false → weakly_dominates v (box_of_first ns).nadir ≡ true
+      node_over none = side_some v (box_of_first ns).nadir (ap is_none (sym node_side) ∙ none)
 
-      module _ (q : Pass L Entry G) (one : LooksIn r (row ∷ []) p q) where
-        pub node_row_there : In row (pinned_copy (known_of q)).rows
-        node_row_there = row_there r (row ∷ []) p q one row node_row
+    -- and then its word 0
+    module _ (q : Pass L Entry G) (one : LooksIn r (row ∷ []) p q) where
+      pub node_row_there : In row (pinned_copy (known_of q)).rows
+      node_row_there = row_there r (row ∷ []) p q one row node_row
 
-        module _ (v : List ℤ) (parts : length v ≡ r.shape) (linked : first / 4 ≡ 0 → ⊥) (side : Option Bool) (answer : (x : List ℤ) → HasValue (length v) (pinned_copy (known_of q)).cells row NADIR x → side ≡ side_of true x v) where
-          node_side : side ≡ side_of true (box_of_first ns).nadir v
-          node_side =
-              let some_links : 0 < length (links_of ns) = (let n = node_links in positive (length (links_of ns)) (λ e. linked (omega (arith, n, e)))) in
-              let box = stays r (λ (x : Copy). IsBoxRow r.shape x.cells row (box_of_first ns)) (row ∷ []) p q one (box_row r.shape (pinned_copy (known_of p)) row ns node_begin some_links) in
-              answer (box_of_first ns).nadir (subst (λ n. HasValue n (pinned_copy (known_of q)).cells row NADIR (box_of_first ns).nadir) (sym parts) box.nadir)
-            where
-              positive : (n : ℕ) → (n ≡ 0 → ⊥) → 0 < n
-              positive zero h = absurd (h refl)
-              positive (suc n) h = omega arith
+      module _ (first : ℕ) (word : (w : ℕ) → look_up (pinned_copy (known_of q)).cells row 0 ≡ Some w → first ≡ w) where
+        pub node_first : look_up (pinned_copy (known_of p)).cells row 0 ≡ Some first
+        node_first = first_there r.shape (pinned_copy (known_of p)) row ns node_begin first (λ w is. word w (stays r (λ (c : Copy). look_up c.cells row 0 ≡ Some w) (row ∷ []) p q one is))
 
-          pub node_under : is_none side ≡ true → weakly_dominates v (box_of_first ns).nadir ≡ false
-          node_under none = side_none v (box_of_first ns).nadir (ap is_none (sym node_side) ∙ none)
+        pub node_few : first / 4 ≤ 39
+        node_few = count_small r.shape (pinned_copy (known_of p)) row ns first node_begin node_first
 
-          pub node_over : is_none side ≡ false → weakly_dominates v (box_of_first ns).nadir ≡ true
-          node_over none = side_some v (box_of_first ns).nadir (ap is_none (sym node_side) ∙ none)
+        pub node_links : length (links_of ns) ≡ first / 4
+        node_links = links_count r.shape (pinned_copy (known_of p)) row ns first node_begin node_first

@@ -1,14 +1,14 @@
 -- All nodes of the list of a pass are settled, from its end; and what is left of the tree.
-use Rattle.std.proofs.Common.{◌≡◌, ℕ, zero, suc, ◌+◌, ◌%◌, ◌<◌, ◌≤◌, ◌⊎◌, inl, inr, true, false, nat_lt, if◌then◌else◌, Option, Some, None, List, [], ◌∷◌, length, refl, sym, ap, subst, ◌∙◌, arith, append-nil, length-append, ℤ, true≢false}
+use Rattle.std.proofs.Common.{◌≡◌, ℕ, zero, suc, ◌+◌, ◌/◌, ◌%◌, ◌<◌, ◌≤◌, ◌⊎◌, inl, inr, true, false, nat_lt, if◌then◌else◌, Option, Some, None, List, [], ◌∷◌, ◌++◌, length, take, refl, sym, ap, subst, ◌∙◌, arith, append-nil, length-append, ℤ, true≢false}
 use Rattle.std.specs.Prelude.{is_none}
 use Rattle.std.proofs.lemmas.Option.{same_Some}
 use Rattle.era_core.specs.declared.sizes.TheConstants.{ROOT_ROWS}
 use Rattle.era_core.specs.Lists.{times, In}
-use Rattle.era_core.specs.Versions.{Copy}
+use Rattle.era_core.specs.Versions.{Copy, look_up}
 use Rattle.era_core.proofs.ListFacts.{times-append, in_head}
 use Rattle.era_core.proofs.Room.{length-below}
 use Rattle.era_rows.specs.Known.{Known, pinned_copy, known_words}
-use Rattle.era_rows.specs.Passes.{known_of, knows_of, marked_of, work_of, IsPassOf}
+use Rattle.era_rows.specs.Passes.{known_of, knows_of, marked_of, memory_of, work_of, IsPassOf}
 use Rattle.era_rows.specs.declared.pass.Pass.{Pass}
 use Rattle.era_rows.specs.declared.rows.Rows.{Rows}
 use Rattle.era_rows.specs.declared.law.Law.{Ghosts}
@@ -16,18 +16,24 @@ use Rattle.pls_archive.specs.declared.call.Entry.{Entry}
 use Rattle.pls_archive.specs.declared.point.Point.{Point}
 use Rattle.pls_archive.specs.Lists.{one_if}
 use Rattle.pls_vectors.specs.Dominance.{weakly_dominates}
-use Rattle.nd_rows.specs.Nodes.{Placed, Nodes, no_nodes, leaf, inner, heads, rows_of, rows_with, points_of, points_with, followed_by}
+use Rattle.nd_rows.specs.Nodes.{Placed, Nodes, no_nodes, leaf, inner, heads, rows_of, rows_with, points_of, points_with, followed_by, AreFormed}
 use Rattle.nd_rows.specs.Layout.{IsTreeOf}
-use Rattle.nd_rows.specs.Walk.{ArePending}
+use Rattle.nd_rows.specs.Reads.{LooksIn}
+use Rattle.nd_rows.specs.Walk.{ArePending, BeginAt}
 use Rattle.nd_rows.proofs.Following.{rows-followed}
-use Rattle.nd_rows.proofs.Pending.{nothing_first}
+use Rattle.nd_rows.proofs.Left.{begins}
+use Rattle.nd_rows.proofs.Pending.{nothing_first, row_among, first_there, links_count, linked_formed}
 use Rattle.nd_update.specs.Building.{IsBuilding, Does}
 use Rattle.nd_update.specs.Left.{hits, next, left, entries, gone_word, alive, AreListed, AreAllListed, IsLeft}
+use Rattle.nd_update.specs.Needed.{ReadsOnly, opened}
 use Rattle.nd_update.specs.Sweeps.{Lists, Settles, Sweeps}
 use Rattle.nd_update.proofs.Filters.{by_test}
-use Rattle.nd_update.proofs.Removing.{stay_pinned, inside_now}
+use Rattle.nd_update.proofs.Building.{looks_do, read_does}
+use Rattle.nd_update.proofs.Removing.{does_work, stay_pinned, inside_now}
 use Rattle.nd_update.proofs.Swept.{results_alive, results_length, heads_in}
-use Rattle.nd_update.proofs.Listing.{pending_left, length-entries}
+use Rattle.nd_update.proofs.Listing.{pending_left, length-entries, plain_empty}
+use Rattle.nd_update.proofs.Opening.{only_at, only_kept, opened_first}
+use Rattle.nd_update.proofs.Reading.{only_row}
 use Rattle.nd_update.proofs.Sweeping.{small_heads}
 use mathlib.Core.Option.{some}
 use lib.ListN.{get_elem?}
@@ -109,6 +115,57 @@ module _ {L : Type 0} {G : Ghosts L Entry} (r : Rows L Entry) where
         listed = work ∙ ap (λ x. x ∷ []) (sym at) ∙ sym is.rooted;
         room = (let few = tree_few p t is_pass is in omega (arith, few));
       })
+
+  -- its word 0 was read, and then it was put on the list
+  pub record IsRootRead (v : List ℤ) (p q : Pass L Entry G) (t : Nodes) (root : ℕ) : Type 0 where
+    pub does : Does r [] [] [] p q
+    pub work : work_of q ≡ root ∷ []
+    pub lists : Lists r t [] q
+    pub only : ReadsOnly (opened v t) (known_of p) (known_of q)
+
+  module _ (v : List ℤ) (p : Pass L Entry G) (t : Nodes) (root : ℕ) (is : IsTreeOf r.shape (pinned_copy (known_of p)) t) (at : (pinned_copy (known_of p)).root ≡ root) where
+    root_heads : heads t ≡ root ∷ []
+    root_heads = is.rooted ∙ ap (λ x. x ∷ []) at
+
+    root_begins : BeginAt r.shape (pinned_copy (known_of p)) root t
+    root_begins = record { pending = tree_pending r.shape (pinned_copy (known_of p)) t is; here = (begins t root [] root_heads).0 }
+
+    pub root_among : In root (pinned_copy (known_of p)).rows
+    root_among = row_among r.shape (pinned_copy (known_of p)) root t root_begins
+
+    pub root_read : (q s : Pass L Entry G) → IsBuilding r p → LooksIn r (root ∷ []) p q → work_of q ≡ work_of p → work_of p ≡ []
+        → ((x : Rows L Entry) → IsPassOf x q → IsPassOf x s) → s.number ≡ q.number → knows_of s ≡ knows_of q → marked_of s ≡ marked_of q → memory_of s ≡ memory_of q → work_of s ≡ work_of q ++ root ∷ [] → IsRootRead v p s t root
+    root_read q s building looks same idle pass number knows marks memory work =
+        let one = looks_do r (root ∷ []) p q building looks in
+        let does = read_does r [] [] [] p q s one (does_work r q s one.building pass number knows marks memory) in
+        let now = work ∙ ap (λ ws. ws ++ root ∷ []) (same ∙ idle) in
+        let first : In root (take 1 (heads t)) = subst (In root) (sym (ap (take 1) root_heads)) (in_head root []) in record {
+          does = does;
+          work = now;
+          lists = root_listed p s t root building.is_pass is at does now;
+          only = only_kept (opened v t) (known_of p) q s knows (only_row root (opened v t) (known_of p) (known_of q) (opened_first v t root first) (only_at r (root ∷ []) p q building looks));
+        }
+
+    module _ (first : ℕ) (word : (w : ℕ) → look_up (pinned_copy (known_of p)).cells root 0 ≡ Some w → first ≡ w) where
+      there : look_up (pinned_copy (known_of p)).cells root 0 ≡ Some first
+      there = first_there r.shape (pinned_copy (known_of p)) root t root_begins first word
+
+      -- with links each node has points below it
+      pub root_formed : (first / 4 ≡ 0 → ⊥) → AreFormed r.shape t
+      root_formed linked = linked_formed r.shape (pinned_copy (known_of p)) root t first root_begins there linked
+
+      -- and without links the root is all
+      pub root_alone : first / 4 ≡ 0 → (work : List ℕ) → work ≡ root ∷ [] → (n : ℕ) × AreAllListed v t n work
+      root_alone none work now =
+          let plain = plain_empty v r.shape (pinned_copy (known_of p)) root t root_begins (links_count r.shape (pinned_copy (known_of p)) root t first root_begins there ∙ none) in
+          let some : 0 < length (heads t) = (let n = ap length root_heads in omega (arith, n)) in (
+            1,
+            record {
+              none_left = heads_none (next v t) (plain.1 ∙ (begins t root [] root_heads).1);
+              some = λ k low. subst (λ i. 0 < length (heads (left v i t))) (let e : 0 ≡ k = omega (arith, low) in e) some;
+              listed = now ∙ ap (λ x. x ∷ []) (sym plain.0);
+            },
+          )
 
   -- there is a row
   pub some_rows : (p : Pass L Entry G) (t : Nodes) → IsPassOf r p → IsTreeOf r.shape (pinned_copy (known_of p)) t → 0 < (known_of p).rows

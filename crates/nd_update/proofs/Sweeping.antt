@@ -1,7 +1,7 @@
 -- The nodes of the list are settled one by one, from its end.
-use Rattle.std.proofs.Common.{◌≡◌, ◌≢◌, ℕ, zero, suc, ◌+◌, ◌-◌, ◌/◌, ◌%◌, ◌<◌, ◌≤◌, ⊎_elim, Bool, true, false, not, nat_lt, if◌then◌else◌, Some, List, [], ◌∷◌, ◌++◌, length, map, take, drop, set, refl, sym, ap, ap₂, subst, ◌∙◌, arith, append-nil, append_assoc, length-append, ℤ, IsTrue}
+use Rattle.std.proofs.Common.{◌≡◌, ◌≢◌, ℕ, zero, suc, ◌+◌, ◌-◌, ◌/◌, ◌%◌, ◌<◌, ◌≤◌, ⊎_elim, Bool, true, false, not, nat_lt, if◌then◌else◌, Some, List, [], ◌∷◌, ◌++◌, length, map, take, drop, set, refl, sym, ap, ap₂, subst, ◌∙◌, arith, append-nil, append_assoc, length-append, ℤ}
 use Rattle.std.specs.Prelude.{◌&&◌, ◌||◌, replicate}
-use Rattle.std.proofs.lemmas.Bool.{lt-ltb, cases_eq, and_parts}
+use Rattle.std.proofs.lemmas.Bool.{lt-ltb, cases_eq}
 use Rattle.std.proofs.Math.Seq.{take-append_seam, drop-append_seam}
 use Rattle.era_core.specs.declared.sizes.TheConstants.{ROOT_ROWS}
 use Rattle.era_core.specs.Lists.{times, In}
@@ -9,12 +9,12 @@ use Rattle.era_core.specs.Versions.{Cell, Copy, look_up}
 use Rattle.era_core.proofs.ListFacts.{times-append, times-head, in_head, in_tail, in-append_left}
 use Rattle.pls_vectors.specs.Box.{Box}
 use Rattle.pls_vectors.specs.Dominance.{weakly_dominates}
-use Rattle.pls_vectors.proofs.Dominance.{weakly_dominates-trans}
 use Rattle.pls_archive.specs.declared.point.Point.{Point}
 use Rattle.pls_archive.specs.Lists.{one_if}
 use Rattle.nd_rows.specs.Nodes.{Placed, Nodes, no_nodes, leaf, inner, heads, rows_of, rows_with, points_of, points_with, followed_by, Encloses}
 use Rattle.nd_rows.specs.Walk.{ArePending, BeginAt, HasPlaced}
 use Rattle.nd_rows.proofs.Following.{rows-followed}
+use Rattle.nd_rows.proofs.Corners.{corners_of}
 use Rattle.nd_rows.proofs.Pending.{leaf_placed, links_count, length_rows, length_points}
 use Rattle.nd_update.specs.Removal.{is_hit, staying, without_dominated, dropped}
 use Rattle.nd_update.specs.Naming.{AreNamed, names_of}
@@ -74,13 +74,6 @@ module _ (v : List ℤ) where
 pub nothing_stays : {A : Type 0} (xs : List A) → length xs ≡ 0 → xs ≡ []
 nothing_stays [] none = refl
 nothing_stays (x ∷ xs) none = absurd (omega (arith, none))
-
--- the corners of a box that encloses a point
-pub corners_of : (b : Box) (points : List Point) → 0 < length points → Encloses b points → IsTrue (weakly_dominates b.ideal b.nadir)
-corners_of b [] some box = absurd (omega (arith, some))
-corners_of b (p ∷ points) some box =
-    let parts = and_parts (weakly_dominates b.ideal p.value) (weakly_dominates p.value b.nadir) box.all.0 in
-    weakly_dominates-trans b.ideal p.value b.nadir parts.0 parts.1
 
 -- the list falls apart
 pub work_apart : (front first second work : List ℕ) (count from : ℕ) → work ≡ front ++ (first ++ second) → length second ≡ count → from ≡ length work - count → (take from work ≡ front ++ first) × (drop from work ≡ second) × (from + count ≡ length work)

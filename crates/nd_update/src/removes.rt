@@ -10,7 +10,7 @@ ghost use Rattle.pls_vectors.specs.Box.{Box};
 ghost use Rattle.pls_vectors.specs.Dominance.{weakly_dominates};
 ghost use Rattle.nd_rows.specs.declared.layout.TheConstants.{FIRST_LINK};
 ghost use Rattle.nd_rows.specs.Layout.{HasWords, IsTreeOf};
-ghost use Rattle.nd_rows.specs.Nodes.{Placed, Nodes, no_nodes, leaf, inner, heads, rows_with, points_of};
+ghost use Rattle.nd_rows.specs.Nodes.{Placed, Nodes, no_nodes, leaf, inner, heads, rows_with, points_of, AreFormed};
 ghost use Rattle.nd_rows.specs.Walk.{HasPlaced};
 ghost use Rattle.nd_update.specs.Building.{Does, Lacks, IsBuilding};
 ghost use Rattle.nd_update.specs.Counted.{IsPaid, WasRead};
@@ -76,27 +76,25 @@ fn list_links(rows: &Rows<NdLaw>, pass: &mut Pass<NdLaw>, row: u32, count: u32)
     }
 }
 
-// Looks at the node at place k of the list. Where the value weakly dominates its nadir, points below it may go.
+// Looks at the node at place k of the list, which has points below it. Where the value weakly dominates its nadir, points below it may
+// go; else its word 0 is not read.
 fn list_node(rows: &Rows<NdLaw>, pass: &mut Pass<NdLaw>, k: usize, value: &Vector)
     requires building { IsBuilding rows.now pass.old }
     requires parts { length value.now ≡ rows.now.shape }
     requires node { (ns : Nodes) × (others : List ℕ) × Lists rows.now ns others pass.old × (length others ≡ k) × (0 < length (heads ns)) }
     ensures does { Does rows.now [] [] [] pass.old pass.new }
-    ensures listed { (ns : Nodes) (others : List ℕ) → Lists rows.now ns others pass.old → length others ≡ k → 0 < length (heads ns)
+    ensures listed { (ns : Nodes) (others : List ℕ) → AreFormed rows.now.shape ns → Lists rows.now ns others pass.old → length others ≡ k → 0 < length (heads ns)
         → work_of pass.new ≡ (others ++ entry value.now ns ∷ []) ++ heads (next value.now ns) }
     ensures only { (ns : Nodes) (others : List ℕ) → Lists rows.now ns others pass.old → length others ≡ k → 0 < length (heads ns)
         → ReadsOnly (take 1 (heads ns)) (known_of pass.old) (known_of pass.new) }
 {
     let row = pass.work(k) as u32;
-    let first = word(rows, pass, row, 0);
-    let count = (first / KINDS) as u32;
-    if count == 0 {
-        return;
-    }
     let side = sided(rows, pass, row, NADIR, value, true);
     if side.is_none() {
         return;
     }
+    let first = word(rows, pass, row, 0);
+    let count = (first / KINDS) as u32;
     if first % KINDS == LEAF {
         pass.work_set(k, told(LEAVES, row));
         return;
@@ -105,14 +103,14 @@ fn list_node(rows: &Rows<NdLaw>, pass: &mut Pass<NdLaw>, k: usize, value: &Vecto
     list_links(rows, pass, row, count);
 }
 
-// Puts all nodes on the list that may change.
+// Puts all nodes on the list that may change, each of which has points below it.
 fn list_nodes(rows: &Rows<NdLaw>, pass: &mut Pass<NdLaw>, value: &Vector)
     requires building { IsBuilding rows.now pass.old }
     requires parts { length value.now ≡ rows.now.shape }
-    requires tree { (t : Nodes) × Lists rows.now t [] pass.old }
+    requires tree { (t : Nodes) × AreFormed rows.now.shape t × Lists rows.now t [] pass.old }
     ensures does { Does rows.now [] [] [] pass.old pass.new }
-    ensures listed { (t : Nodes) → Lists rows.now t [] pass.old → (n : ℕ) × AreAllListed value.now t n (work_of pass.new) }
-    ensures only { (t : Nodes) → Lists rows.now t [] pass.old → ReadsOnly (opened value.now t) (known_of pass.old) (known_of pass.new) }
+    ensures listed { (t : Nodes) → AreFormed rows.now.shape t → Lists rows.now t [] pass.old → (n : ℕ) × AreAllListed value.now t n (work_of pass.new) }
+    ensures only { (t : Nodes) → AreFormed rows.now.shape t → Lists rows.now t [] pass.old → ReadsOnly (opened value.now t) (known_of pass.old) (known_of pass.new) }
 {
     for k in 0..MOST_ROWS as usize {
         if k == pass.work_len() {
@@ -120,6 +118,26 @@ fn list_nodes(rows: &Rows<NdLaw>, pass: &mut Pass<NdLaw>, value: &Vector)
         }
         list_node(rows, pass, k, value);
     }
+}
+
+// Puts all nodes of the pinned tree, whose root row is given, on the list that may change. Only a leaf without points, alone, has no
+// box: it is known by the word 0 of the root, and is not looked at.
+fn list_tree(rows: &Rows<NdLaw>, pass: &mut Pass<NdLaw>, root: u32, value: &Vector)
+    requires building { IsBuilding rows.now pass.old }
+    requires parts { length value.now ≡ rows.now.shape }
+    requires tree { (t : Nodes) × IsTreeOf rows.now.shape (pinned_copy (known_of pass.old)) t }
+    requires root { (pinned_copy (known_of pass.old)).root ≡ root }
+    requires idle { work_of pass.old ≡ [] }
+    ensures does { Does rows.now [] [] [] pass.old pass.new }
+    ensures listed { (t : Nodes) → IsTreeOf rows.now.shape (pinned_copy (known_of pass.old)) t → (n : ℕ) × AreAllListed value.now t n (work_of pass.new) }
+    ensures only { (t : Nodes) → IsTreeOf rows.now.shape (pinned_copy (known_of pass.old)) t → ReadsOnly (opened value.now t) (known_of pass.old) (known_of pass.new) }
+{
+    let first = word(rows, pass, root, 0);
+    pass.work_push(root as u64);
+    if first / KINDS == 0 {
+        return;
+    }
+    list_nodes(rows, pass, value);
 }
 
 // Which points of a leaf the value weakly dominates.
@@ -584,8 +602,7 @@ pub(crate) fn remove(
         → IsLeft rows.now.rows value.now rows.now.shape t (known_words (known_of pass.new)) (known_of pass.new).core.fresh (marked_of pass.new) l.root l.removed) }
     ensures only { (t : Nodes) → IsTreeOf rows.now.shape (pinned_copy (known_of pass.old)) t → ReadsOnly (opened value.now t) (known_of pass.old) (known_of pass.new) }
 {
-    pass.work_push(root as u64);
-    list_nodes(rows, pass, value);
+    list_tree(rows, pass, root, value);
     let removed = settle_all(rows, pass, value);
     let left = all_left(pass, removed);
     pass.work_cut(0);

@@ -1,4 +1,4 @@
-use Rattle.std.proofs.Common.{[], ◌∷◌, ◌++◌, length, ap, ◌∙◌, arith}
+use Rattle.std.proofs.Common.{[], ◌++◌, ap, ◌∙◌}
 use Rattle.era_core.specs.Versions.{Copy}
 use Rattle.era_rows.specs.Passes.{known_of}
 use Rattle.nd_rows.specs.Layout.{IsTreeOf}
@@ -6,45 +6,21 @@ use Rattle.nd_update.specs.Needed.{opened}
 use Rattle.nd_update.proofs.Building.{read_does, does_read}
 use Rattle.nd_update.proofs.Lacking.{does_lacks, lacks_work}
 use Rattle.nd_update.proofs.Paying.{paid_still}
-use Rattle.nd_update.proofs.Reading.{only_then, only_list}
+use Rattle.nd_update.proofs.Reading.{only_then}
 use Rattle.nd_update.proofs.Opening.{only_kept}
 use Rattle.nd_update.proofs.Removing.{does_work, stay_pinned}
 use Rattle.nd_update.proofs.Settling.{map_some, both_some, of_some, pinned_still}
-use Rattle.nd_update.proofs.RemovingAll.{some_rows, root_listed, word_on, is_left, left_still}
+use Rattle.nd_update.proofs.RemovingAll.{word_on, is_left, left_still}
 use Rattle.nd_update.proofs.removes.remove.Goals as goal
-
-pub work_push-requires : goal.work_push-requires
-work_push-requires c =
-    let tree = c.requires.tree in
-    let some_row = some_rows c.args.rows.now c.args.pass.now tree.0 c.requires.building.is_pass tree.1 in
-    let none = ap length c.requires.idle in omega (arith, some_row, none)
-
-pub list_nodes-requires-clause-building : goal.list_nodes-requires-clause-building
-list_nodes-requires-clause-building c =
-    let push = c.work_push.ensures in (does_work c.args.rows.now c.args.pass.now c.work_push.new.self c.requires.building push.pass push.number push.known push.marks push.memory).building
-
-pub list_nodes-requires-clause-tree : goal.list_nodes-requires-clause-tree
-list_nodes-requires-clause-tree c =
-    let r = c.args.rows.now in
-    let p = c.args.pass.now in
-    let a = c.work_push.new.self in
-    let push = c.work_push.ensures in
-    let tree = c.requires.tree in
-    let one = does_work r p a c.requires.building push.pass push.number push.known push.marks push.memory in
-    (tree.0, root_listed r p a tree.0 c.args.root c.requires.building.is_pass tree.1 c.requires.root one (push.work ∙ ap (λ ws. ws ++ c.args.root ∷ []) c.requires.idle))
 
 pub settle_all-removed-requires : goal.settle_all-removed-requires
 settle_all-removed-requires c =
     let r = c.args.rows.now in
     let p = c.args.pass.now in
-    let a = c.work_push.new.self in
-    let b = c.list_nodes.new.pass in
-    let push = c.work_push.ensures in
-    let one = does_work r p a c.requires.building push.pass push.number push.known push.marks push.memory in
-    let two = read_does r [] [] [] p a b one c.list_nodes.ensures.does in
+    let b = c.list_tree.new.pass in
+    let two = c.list_tree.ensures.does in
     let tree = c.requires.tree in
-    let lists = root_listed r p a tree.0 c.args.root c.requires.building.is_pass tree.1 c.requires.root one (push.work ∙ ap (λ ws. ws ++ c.args.root ∷ []) c.requires.idle) in
-    let all = c.list_nodes.ensures.listed tree.0 lists in
+    let all = c.list_tree.ensures.listed tree.0 tree.1 in
     let there = stay_pinned r (λ (x : Copy). IsTreeOf r.shape x tree.0) [] [] [] p b two tree.1 in
     record {
       building = two.building;
@@ -60,15 +36,11 @@ all_left-left-requires c =
     let r = c.args.rows.now in
     let v = c.args.value.now in
     let p = c.args.pass.now in
-    let a = c.work_push.new.self in
-    let b = c.list_nodes.new.pass in
-    let push = c.work_push.ensures in
-    let one = does_work r p a c.requires.building push.pass push.number push.known push.marks push.memory in
-    let two = read_does r [] [] [] p a b one c.list_nodes.ensures.does in
+    let b = c.list_tree.new.pass in
+    let two = c.list_tree.ensures.does in
     let d = c.settle_all-removed.new.pass in
     let tree = c.requires.tree in
-    let lists = root_listed r p a tree.0 c.args.root c.requires.building.is_pass tree.1 c.requires.root one (push.work ∙ ap (λ ws. ws ++ c.args.root ∷ []) c.requires.idle) in
-    let all = c.list_nodes.ensures.listed tree.0 lists in
+    let all = c.list_tree.ensures.listed tree.0 tree.1 in
     let there = stay_pinned r (λ (x : Copy). IsTreeOf r.shape x tree.0) [] [] [] p b two tree.1 in
     map_some c.settle_all-removed.result _ _
     (λ removed did.
@@ -81,11 +53,8 @@ returns c =
     let r = c.args.rows.now in
     let v = c.args.value.now in
     let p = c.args.pass.now in
-    let a = c.work_push.new.self in
-    let b = c.list_nodes.new.pass in
-    let push = c.work_push.ensures in
-    let one = does_work r p a c.requires.building push.pass push.number push.known push.marks push.memory in
-    let two = read_does r [] [] [] p a b one c.list_nodes.ensures.does in
+    let b = c.list_tree.new.pass in
+    let two = c.list_tree.ensures.does in
     let d = c.settle_all-removed.new.pass in
     let x = c.work_cut.new.self in
     let settled = c.settle_all-removed.ensures in
@@ -105,15 +74,13 @@ returns c =
           c.all_left-left.ensures.left;
       work = cut.work;
       only = λ t is.
-          let lists = root_listed r p a t c.args.root c.requires.building.is_pass is c.requires.root one (push.work ∙ ap (λ ws. ws ++ c.args.root ∷ []) c.requires.idle) in
-          let all = c.list_nodes.ensures.listed t lists in
+          let all = c.list_tree.ensures.listed t is in
           let there = stay_pinned r (λ (y : Copy). IsTreeOf r.shape y t) [] [] [] p b two is in
           only_kept (opened v t) (known_of p) d x cut.known
-          (only_then r [] [] [] (opened v t) p b d two (only_then r [] [] [] (opened v t) p a b one (only_list (opened v t) p a push.known) (c.list_nodes.ensures.only t lists)) (settled.only t all.0 there all.1));
+          (only_then r [] [] [] (opened v t) p b d two (c.list_tree.ensures.only t is) (settled.only t all.0 there all.1));
       left = map_some c.all_left-left.result _ _
           (λ l told t is.
-          let lists = root_listed r p a t c.args.root c.requires.building.is_pass is c.requires.root one (push.work ∙ ap (λ ws. ws ++ c.args.root ∷ []) c.requires.idle) in
-          let all = c.list_nodes.ensures.listed t lists in
+          let all = c.list_tree.ensures.listed t is in
           let there = stay_pinned r (λ (x : Copy). IsTreeOf r.shape x t) [] [] [] p b two is in
           let more = of_some some l.removed _ told.0 settled.does in
           left_still r v d x t l.root l.removed cut.known cut.marks
