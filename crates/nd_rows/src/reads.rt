@@ -1,5 +1,5 @@
 //! Reading the rows of a pinned version.
-ghost use Rattle.std.specs.Prelude.{◌≡◌, ℕ, ℤ, ◌+◌, ◌<◌, ◌≤◌, Some, List, [], ◌∷◌, length, slice_index_or, pos, IsTrue, nat_le, if◌then◌else◌};
+ghost use Rattle.std.specs.Prelude.{◌≡◌, ℕ, ℤ, ◌+◌, ◌<◌, ◌≤◌, Some, List, [], ◌∷◌, length, slice_index_or, pos, IsTrue, ◌^◌, nat_le, nat_lt, if◌then◌else◌};
 ghost use Rattle.era_core.specs.Lists.{In};
 ghost use Rattle.era_core.specs.Versions.{look_up};
 ghost use Rattle.era_rows.specs.Known.{pinned_copy};
@@ -36,19 +36,20 @@ pub fn part_word(value: &Vector, k: usize) -> u64
     to_word(value.part(k))
 }
 
-// Whether the first word is at least the second, or the second the first where they are turned round.
-fn at_least(turned: bool, found: u64, wanted: u64) -> bool
-    ensures { result ≡ (if turned then nat_le found wanted else nat_le wanted found) }
+// The found word less the wanted one, or the wanted one less the found one where they are turned round. Where both are below 2^63, its
+// highest bit tells that the first of them is less.
+fn difference(turned: bool, found: u64, wanted: u64) -> u64
+    ensures { found < 2 ^ 63 → wanted < 2 ^ 63 → nat_lt result (2 ^ 63) ≡ (if turned then nat_le found wanted else nat_le wanted found) }
 {
     if turned {
-        found <= wanted
+        wanted.wrapping_sub(found)
     } else {
-        wanted <= found
+        found.wrapping_sub(wanted)
     }
 }
 
 /// Whether the parts that stand in a row of the pinned version from a place on are at least those of the value, or at most where they
-/// are turned round; and if so, whether all are equal. It stops at the first that is not.
+/// are turned round; and if so, whether all are equal. It compares all parts, without a branch between them.
 pub fn sided(
     rows: &Rows<NdLaw>,
     pass: &mut Pass<NdLaw>,
@@ -64,14 +65,17 @@ pub fn sided(
     ensures work { work_of pass.new ≡ work_of pass.old }
     ensures answer { (x : List ℤ) → HasValue (length value.now) (pinned_copy (known_of pass.old)).cells row place x → result ≡ side_of turned x value.now }
 {
-    let mut equal = true;
+    let mut short = 0;
+    let mut other = 0;
     for k in 0..value.len() {
         let found = word(rows, pass, row, place + k as u32);
         let wanted = part_word(value, k);
-        if !at_least(turned, found, wanted) {
-            return None;
-        }
-        equal &= found == wanted;
+        short |= difference(turned, found, wanted);
+        other |= found ^ wanted;
     }
-    Some(equal)
+    if short >> 63 == 1 {
+        None
+    } else {
+        Some(other == 0)
+    }
 }
