@@ -1,8 +1,9 @@
 -- Values of which a pass remembers the words.
-use Rattle.std.proofs.Common.{◌≡◌, ℕ, zero, suc, ◌+◌, ◌-◌, ◌<◌, ◌≤◌, Bool, true, false, Option, Some, None, List, [], ◌∷◌, ◌++◌, length, map, take, drop, get_or, set, ℤ, pos, int_le, nat_le, IsTrue, refl, sym, ap, ap₂, subst, ◌∙◌, arith, take_all}
-use Rattle.std.specs.Prelude.{◌&&◌, ◌||◌, replicate}
-use Rattle.std.specs.List.{list_all, list_any}
+use Rattle.std.proofs.Common.{◌≡◌, ℕ, zero, suc, ◌+◌, ◌-◌, ◌/◌, ◌<◌, ◌≤◌, ◌^◌, Bool, true, false, Option, Some, None, List, [], ◌∷◌, ◌++◌, length, map, take, drop, get_or, set, ℤ, pos, int_le, nat_le, nat_lt, bit_or, IsTrue, refl, sym, ap, ap₂, subst, ◌∙◌, arith, take_all}
+use Rattle.std.specs.Prelude.{◌&&◌, ◌||◌, ◌==◌, replicate}
+use Rattle.std.specs.List.{list_all}
 use Rattle.std.proofs.lemmas.Bool.{and_parts, or_left, or_right, true≢false}
+use Rattle.std.proofs.lemmas.Bool.Decides.{nat_tests}
 use Rattle.std.proofs.lemmas.Int.{ints}
 use Rattle.std.proofs.lemmas.List.{drop_all}
 use Rattle.era_rows.specs.Memory.{Memory}
@@ -13,8 +14,10 @@ use Rattle.pls_archive.specs.Reply.{has_value, some_weakly_dominates}
 use Rattle.pls_vectors.specs.Dominance.{weakly_dominates, is_part, IsValue}
 use Rattle.pls_vectors.specs.Word.{to_word, from_word}
 use Rattle.pls_vectors.proofs.Dominance.{weakly_dominates-IsPreorder}
+use Rattle.pls_vectors.proofs.Signs.{below-or}
 use Rattle.nd_rows.specs.Entries.{is_submitted, memory_words, held_covers, recalls_value}
 use Rattle.nd_rows.proofs.PointWords.{word_back}
+use Rattle.nd_rows.proofs.Sides.{word_fits}
 use mathlib.Core.Option.{some, some-injective}
 use lib.ListN.{get_elem?}
 
@@ -158,7 +161,7 @@ four_at_least (x ∷ y ∷ z ∷ w ∷ []) a b c d more is =
     (ap₂ (λ s t. s && t) (same_order b y two.0) (ap₂ (λ s t. s && t) (same_order c z three.0) (same_order d w four.0 ∙ and_true (int_le w (from_word d)))))
 four_at_least (x ∷ y ∷ z ∷ w ∷ u ∷ v) a b c d more is = absurd (let few = is.at_most_four in omega arith)
 
-pub words_at_least : (v : List ℤ) (words wanted : List ℕ) → 4 ≤ length words → IsValue v → wanted ≡ memory_words v
+words_at_least : (v : List ℤ) (words wanted : List ℕ) → 4 ≤ length words → IsValue v → wanted ≡ memory_words v
     → (((nat_le (get_or wanted 0 0) (get_or words 0 0) && nat_le (get_or wanted 1 0) (get_or words 1 0)) && nat_le (get_or wanted 2 0) (get_or words 2 0)) && nat_le (get_or wanted 3 0) (get_or words 3 0)) ≡ held_covers v (Some words)
 words_at_least v [] wanted room is wanted_is = absurd (omega arith)
 words_at_least v (a ∷ []) wanted room is wanted_is = absurd (omega arith)
@@ -166,3 +169,31 @@ words_at_least v (a ∷ b ∷ []) wanted room is wanted_is = absurd (omega arith
 words_at_least v (a ∷ b ∷ c ∷ []) wanted room is wanted_is = absurd (omega arith)
 words_at_least v (a ∷ b ∷ c ∷ d ∷ more) wanted room is wanted_is =
     ap (λ w. ((nat_le (get_or w 0 0) a && nat_le (get_or w 1 0) b) && nat_le (get_or w 2 0) c) && nat_le (get_or w 3 0) d) wanted_is ∙ four_at_least v a b c d more is
+
+-- a word of a value, and one past them, leaves the highest bit clear
+memory_fits : (v : List ℤ) → list_all is_part v ≡ true → (k : ℕ) → get_or (memory_words v) k 0 < 2 ^ 63
+memory_fits v inside = among v (6 - length v) inside
+  where
+    among : (v : List ℤ) (n : ℕ) → list_all is_part v ≡ true → (k : ℕ) → get_or (map to_word v ++ replicate n 0) k 0 < 2 ^ 63
+    among [] zero inside k = omega arith
+    among [] (suc n) inside zero = omega arith
+    among [] (suc n) inside (suc k) = among [] n inside k
+    among (x ∷ v) n inside zero = word_fits x (to_word x) (and_parts (is_part x) (list_all is_part v) inside).0 refl
+    among (x ∷ v) n inside (suc k) = among v n (and_parts (is_part x) (list_all is_part v) inside).1 k
+
+highest-clear : (n : ℕ) → (n / 2 ^ 63 == 0) ≡ nat_lt n (2 ^ 63)
+highest-clear n = grind (arith, nat_tests)
+
+-- the highest bit of a number tells that the k-th word is less than the wanted one, which leaves that bit clear
+abbrev pub IsShortfall : List ℕ → List ℕ → ℕ → ℕ → Type 0
+IsShortfall words wanted k n = get_or wanted k 0 < 2 ^ 63 → nat_lt n (2 ^ 63) ≡ nat_le (get_or wanted k 0) (get_or words k 0)
+
+-- none of four words falls short where the or of the four leaves the highest bit clear
+pub none_falls_short : (v : List ℤ) (words wanted : List ℕ) → 4 ≤ length words → IsValue v → wanted ≡ memory_words v
+    → (a b c d : ℕ) → IsShortfall words wanted 0 a → IsShortfall words wanted 1 b → IsShortfall words wanted 2 c → IsShortfall words wanted 3 d
+    → (bit_or (bit_or (bit_or a b) c) d / 2 ^ 63 == 0) ≡ held_covers v (Some words)
+none_falls_short v words wanted room is wanted_is a b c d first second third fourth =
+    highest-clear _ ∙ (rw (below-or 63, below-or 63, below-or 63, first (low 0), second (low 1), third (low 2), fourth (low 3)) (words_at_least v words wanted room is wanted_is))
+  where
+    low : (k : ℕ) → get_or wanted k 0 < 2 ^ 63
+    low k = subst (λ ws. get_or ws k 0 < 2 ^ 63) (sym wanted_is) (memory_fits v is.in_range k)

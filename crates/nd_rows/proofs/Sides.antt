@@ -41,7 +41,7 @@ word_equal : (x y : ℤ) → IsTrue (is_part x) → IsTrue (is_part y) → int_l
 word_equal x y p q le = grind (arith, ints)
 
 -- the word of a part leaves the highest bit clear
-word_fits : (x : ℤ) (w : ℕ) → IsTrue (is_part x) → w ≡ to_word x → w < 2 ^ 63
+pub word_fits : (x : ℤ) (w : ℕ) → IsTrue (is_part x) → w ≡ to_word x → w < 2 ^ 63
 word_fits x w p is = grind (arith, ints)
 
 -- Words were compared: an or of the differences, whose highest bit is clear where none falls short, and an or that is 0 where all

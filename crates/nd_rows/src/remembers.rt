@@ -1,5 +1,5 @@
 //! The values of submitted points that a pass remembers.
-ghost use Rattle.std.specs.Prelude.{◌≡◌, ℤ, ◌<◌, ◌%◌, true, Some, List, [], ◌∷◌, length, slice_set};
+ghost use Rattle.std.specs.Prelude.{◌≡◌, ℤ, ◌<◌, ◌%◌, ◌^◌, nat_le, nat_lt, true, Some, List, [], ◌∷◌, length, slice_set};
 ghost use Rattle.era_core.specs.Lists.{In};
 ghost use Rattle.era_rows.specs.Known.{pinned_copy};
 ghost use Rattle.era_rows.specs.declared.memory.TheConstants.{MEMORY_PLACES};
@@ -33,14 +33,24 @@ fn words_of(value: &Vector) -> [u64; MEMORY_WORDS]
     words
 }
 
-// Whether each word of the first four is at least the wanted one. A value has at most four parts, and a wanted word past them is 0.
+// The held word less the wanted one, without its highest bit where the held word has that. Where the wanted word is below 2^63, the
+// highest bit of the result tells that the held word is less.
+fn shortfall(held: u64, wanted: u64) -> u64
+    ensures { wanted < 2 ^ 63 → nat_lt result (2 ^ 63) ≡ nat_le wanted held }
+{
+    held.wrapping_sub(wanted) & !held
+}
+
+// Whether each word of the first four is at least the wanted one, without a branch between them. A value has at most four parts, and a
+// wanted word past them is 0.
 fn are_at_least(words: &[u64; MEMORY_WORDS], wanted: &[u64; MEMORY_WORDS]) -> bool
     ensures { (v : List ℤ) → IsValue v → wanted.now ≡ memory_words v → result ≡ held_covers v (Some words.now) }
 {
-    (words[0] >= wanted[0])
-        & (words[1] >= wanted[1])
-        & (words[2] >= wanted[2])
-        & (words[3] >= wanted[3])
+    let mut short = shortfall(words[0], wanted[0]);
+    short |= shortfall(words[1], wanted[1]);
+    short |= shortfall(words[2], wanted[2]);
+    short |= shortfall(words[3], wanted[3]);
+    short >> 63 == 0
 }
 
 // Whether the words at a place are of a value that weakly dominates the one with the wanted words.
