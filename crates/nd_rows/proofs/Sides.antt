@@ -65,7 +65,8 @@ next_part : (x y : ℤ) (xs v : List ℤ) → IsTrue (is_part x) → IsTrue (is_
 next_part x y xs v p q =
     sym (ap (λ least. if least then with_equal (to_word x == to_word y) (sided xs v) else None) (word_order x y p q) ∙ by_part (int_le y x) refl)
   where
-    by_part : (b : Bool) → int_le y x ≡ b → (if b then with_equal (to_word x == to_word y) (sided xs v) else None) ≡ (if b && weakly_dominates xs v then Some (int_le x y && weakly_dominates v xs) else None)
+    by_part : (b : Bool) → int_le y x ≡ b
+        → (if b then with_equal (to_word x == to_word y) (sided xs v) else None) ≡ (if b && weakly_dominates xs v then Some (int_le x y && weakly_dominates v xs) else None)
     by_part true le = ap (λ e. with_equal e (sided xs v)) (word_equal x y p q le) ∙ combine true (int_le x y) (weakly_dominates xs v) (weakly_dominates v xs)
     by_part false le = refl
 
@@ -86,9 +87,7 @@ none-or a b = grind (arith, nat_tests, or_add_and a b, and_le_l a b, le_or_l a b
 -- one more pair of words
 with_words-both : (short other d w y : ℕ) (o : Option Bool) → nat_lt d (2 ^ 63) ≡ nat_le y w
     → with_words short other (if nat_le y w then with_equal (w == y) o else None) ≡ with_words (bit_or short d) (bit_or other (bit_xor w y)) o
-with_words-both short other d w y o d_is =
-    with_both (nat_lt short (2 ^ 63)) (other == 0) (nat_le y w) (w == y) o
-    ∙ ap₂ (λ s e. if s then with_equal e o else None) (ap (λ b. nat_lt short (2 ^ 63) && b) (sym d_is) ∙ sym (below-or 63 short d)) (ap (λ b. (other == 0) && b) (sym (same-xor w y)) ∙ sym (none-or other (bit_xor w y)))
+with_words-both short other d w y o d_is = rw (below-or 63, d_is, none-or, same-xor) (with_both (nat_lt short (2 ^ 63)) (other == 0) (nat_le y w) (w == y) o)
 
 -- what is compared so far, with what is left, is the whole
 sided_goes_on :
@@ -105,7 +104,8 @@ sided_goes_on xs v same k short other so_far low in_xs in_v w y d w_is y_is d_is
     ∙ ap (λ n. with_words (bit_or short d) (bit_or other (bit_xor w y)) (sided (drop n xs) (drop n v))) (let e : suc k ≡ k + 1 = omega arith in e)
 
 -- The same, turned round or not.
-module _ (turned : Bool) (xs v : List ℤ) (same : length xs ≡ length v) (k short other : ℕ) (so_far : side_of turned xs v ≡ with_words short other (side_of turned (drop k xs) (drop k v))) where
+module _ (turned : Bool) (xs v : List ℤ) (same : length xs ≡ length v) (k short other : ℕ)
+    (so_far : side_of turned xs v ≡ with_words short other (side_of turned (drop k xs) (drop k v))) where
   pub side_goes_on :
       k < length v → IsTrue (is_part (get_or xs k (pos 0))) → IsTrue (is_part (get_or v k (pos 0)))
       → (w y d : ℕ) → w ≡ to_word (get_or xs k (pos 0)) → y ≡ to_word (get_or v k (pos 0))
