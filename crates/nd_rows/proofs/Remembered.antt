@@ -1,23 +1,30 @@
 -- Values of which a pass remembers the words.
-use Rattle.std.proofs.Common.{◌≡◌, ℕ, zero, suc, ◌+◌, ◌-◌, ◌/◌, ◌<◌, ◌≤◌, ◌^◌, Bool, true, false, Option, Some, None, List, [], ◌∷◌, ◌++◌, length, map, take, drop, get_or, set, ℤ, pos, int_le, nat_le, nat_lt, bit_or, IsTrue, refl, sym, ap, ap₂, subst, ◌∙◌, arith, take_all}
+use Rattle.std.proofs.Common.{◌≡◌, ℕ, zero, suc, ◌+◌, ◌-◌, ◌/◌, ◌<◌, ◌≤◌, ◌^◌, Bool, true, false, Option, Some, None, List, [], ◌∷◌, ◌++◌, length, map, take, drop, get_or, set, ℤ, pos, int_le, nat_le, nat_lt, bit_or, bit_xor, not, All, IsTrue, refl, sym, ap, ap₂, subst, ◌∙◌, arith, drop-cons, take_all}
 use Rattle.std.specs.Prelude.{◌&&◌, ◌||◌, ◌==◌, replicate}
-use Rattle.std.specs.List.{list_all}
-use Rattle.std.proofs.lemmas.Bool.{and_parts, or_left, or_right, true≢false}
+use Rattle.std.specs.List.{list_all, list_any}
+use Rattle.std.proofs.lemmas.Bool.{and_from, and_parts, both_ways, false_from_ne_true, not-true, not_from_false, or_from, or_left, or_right, true≢false}
 use Rattle.std.proofs.lemmas.Bool.Decides.{nat_tests}
 use Rattle.std.proofs.lemmas.Int.{ints}
 use Rattle.std.proofs.lemmas.List.{drop_all}
+use Rattle.std.proofs.lemmas.List.Elements.{All-head, All-tail}
 use Rattle.era_rows.specs.Memory.{Memory}
+use Rattle.pls_archive.specs.declared.call.Call.TheVariants.{Member}
 use Rattle.pls_archive.specs.declared.call.Entry.{Entry}
+use Rattle.pls_archive.specs.declared.call.Reply.TheVariants.{No}
 use Rattle.pls_archive.specs.declared.point.Point.{Point}
 use Rattle.pls_archive.specs.History.{submissions}
-use Rattle.pls_archive.specs.Reply.{has_value, some_weakly_dominates}
+use Rattle.pls_archive.specs.NondominatedRule.{member-no}
+use Rattle.pls_archive.specs.Reply.{has_value, members, nondominated, point_weakly_dominates, some_weakly_dominates}
+use Rattle.pls_vectors.specs.Archive.{dominates}
 use Rattle.pls_vectors.specs.Dominance.{weakly_dominates, is_part, IsValue}
 use Rattle.pls_vectors.specs.Word.{to_word, from_word}
+use Rattle.pls_vectors.proofs.Archive.{archive-undominated, dominates-covered}
 use Rattle.pls_vectors.proofs.Dominance.{weakly_dominates-IsPreorder}
+use Rattle.pls_vectors.proofs.Lists.{list_any-weaker}
 use Rattle.pls_vectors.proofs.Signs.{below-or}
-use Rattle.nd_rows.specs.Entries.{is_submitted, memory_words, held_covers, recalls_value}
+use Rattle.nd_rows.specs.Entries.{is_submitted, memory_words, held_covers, held_dominates, recalls_value, recalls_dominating}
 use Rattle.nd_rows.proofs.PointWords.{word_back}
-use Rattle.nd_rows.proofs.Sides.{word_fits}
+use Rattle.nd_rows.proofs.Sides.{none-or, same-xor, word_fits}
 use mathlib.Core.Option.{some, some-injective}
 use lib.ListN.{get_elem?}
 
@@ -88,17 +95,18 @@ held_at [] k held there = absurd (nothing k there)
 held_at (m ∷ memory) zero held there = ap (λ x. x ∷ memory) (some-injective m held there)
 held_at (m ∷ memory) (suc k) held there = held_at memory k held there ∙ ap (λ n. held ∷ drop n (m ∷ memory)) (let e : suc (k + 1) ≡ suc k + 1 = omega arith in e)
 
-module _ (memory : Memory) (v : List ℤ) (k : ℕ) (held : Option (List ℕ)) (there : get_elem? memory k ≡ some held) (so_far : recalls_value memory v ≡ recalls_value (drop k memory) v) where
-  -- a place that answers the question answers it for all
-  pub recalls_found : held_covers v held ≡ true → true ≡ recalls_value memory v
-  recalls_found found = sym (so_far ∙ ap (λ m. recalls_value m v) (held_at memory k held there) ∙ or_left _ _ found)
+module _ (test : Option (List ℕ) → Bool) (memory : Memory) (k : ℕ) where
+  module _ (held : Option (List ℕ)) (there : get_elem? memory k ≡ some held) (so_far : list_any test memory ≡ list_any test (drop k memory)) where
+    -- a place that answers the question answers it for all
+    pub recalls_found : test held ≡ true → true ≡ list_any test memory
+    recalls_found found = sym (so_far ∙ ap (list_any test) (held_at memory k held there) ∙ or_left _ _ found)
 
-  pub recalls_passed : held_covers v held ≡ false → recalls_value memory v ≡ recalls_value (drop (k + 1) memory) v
-  recalls_passed found = so_far ∙ ap (λ m. recalls_value m v) (held_at memory k held there) ∙ ap (λ b. b || recalls_value (drop (k + 1) memory) v) found
+    pub recalls_passed : test held ≡ false → list_any test memory ≡ list_any test (drop (k + 1) memory)
+    recalls_passed found = so_far ∙ ap (list_any test) (held_at memory k held there) ∙ ap (λ b. b || list_any test (drop (k + 1) memory)) found
 
--- no place is left
-pub recalls_none : (memory : Memory) (v : List ℤ) (k : ℕ) → length memory ≡ 16 → 16 ≤ k → recalls_value memory v ≡ recalls_value (drop k memory) v → false ≡ recalls_value memory v
-recalls_none memory v k places all so_far = sym (so_far ∙ ap (λ m. recalls_value m v) (drop_all k memory (omega arith)))
+  -- no place is left
+  pub recalls_none : length memory ≡ 16 → 16 ≤ k → list_any test memory ≡ list_any test (drop k memory) → false ≡ list_any test memory
+  recalls_none places all so_far = sym (so_far ∙ ap (list_any test) (drop_all k memory (omega arith)))
 
 -- where a value that was submitted weakly dominates another, some submission does
 value_covers : (points : List Point) (x v : List ℤ) → has_value points x ≡ true → weakly_dominates x v ≡ true → some_weakly_dominates points v ≡ true
@@ -109,17 +117,55 @@ value_covers (p ∷ points) x v has covers = by_first (weakly_dominates p.value 
     by_first true is rest = or_left _ _ (weakly_dominates-IsPreorder.transitive p.value x v (and_parts _ _ is).0 covers)
     by_first false is rest = or_right _ _ (rest (sym (ap (λ b. b || has_value points x) is) ∙ has))
 
--- and so does one where a value that is remembered does
-pub recalled_submitted : (entries : List Entry) (v : List ℤ) (memory : Memory) → ((place : ℕ) (words : List ℕ) → get_elem? memory place ≡ some (Some words) → is_submitted (length v) words entries ≡ true)
-    → recalls_value memory v ≡ true → some_weakly_dominates (submissions entries) v ≡ true
-recalled_submitted entries v [] holds recalls = absurd (true≢false (sym recalls))
-recalled_submitted entries v (None ∷ memory) holds recalls = recalled_submitted entries v memory (λ place words there. holds (suc place) words there) recalls
-recalled_submitted entries v (Some words ∷ memory) holds recalls =
-    by_first (held_covers v (Some words)) refl (recalled_submitted entries v memory (λ place words there. holds (suc place) words there))
+-- what some place answers, words at a place answer
+held_words : (test : Option (List ℕ) → Bool) → test None ≡ false → (memory : Memory) → list_any test memory ≡ true
+    → (place : ℕ) × (words : List ℕ) × (get_elem? memory place ≡ some (Some words)) × (test (Some words) ≡ true)
+held_words test none [] meets = absurd (true≢false (sym meets))
+held_words test none (None ∷ memory) meets =
+    let later = held_words test none memory (sym (ap (λ b. b || list_any test memory) none) ∙ meets) in (suc later.0, later.1, later.2, later.3)
+held_words test none (Some words ∷ memory) meets = by_first (test (Some words)) refl (held_words test none memory)
   where
-    by_first : (b : Bool) → held_covers v (Some words) ≡ b → (recalls_value memory v ≡ true → some_weakly_dominates (submissions entries) v ≡ true) → some_weakly_dominates (submissions entries) v ≡ true
-    by_first true is rest = value_covers (submissions entries) (map from_word (take (length v) words)) v (holds 0 words refl) is
-    by_first false is rest = rest (sym (ap (λ b. b || recalls_value memory v) is) ∙ recalls)
+    by_first : (b : Bool) → test (Some words) ≡ b → (list_any test memory ≡ true → (place : ℕ) × (ws : List ℕ) × (get_elem? memory place ≡ some (Some ws)) × (test (Some ws) ≡ true))
+        → (place : ℕ) × (ws : List ℕ) × (get_elem? (Some words ∷ memory) place ≡ some (Some ws)) × (test (Some ws) ≡ true)
+    by_first true is rest = (0, words, refl, is)
+    by_first false is rest = let later = rest (sym (ap (λ b. b || list_any test memory) is) ∙ meets) in (suc later.0, later.1, later.2, later.3)
+
+-- no member has a value that one which was submitted dominates
+module _ (points : List Point) (x v : List ℤ) (has : has_value points x ≡ true) (better : dominates weakly_dominates x v ≡ true) where
+  beaten : (m : Point) → (weakly_dominates m.value v && weakly_dominates v m.value) ≡ true → list_any (λ r. dominates point_weakly_dominates r m) points ≡ true
+  beaten m same =
+      let order = weakly_dominates-IsPreorder in
+      let at = and_parts _ _ same in
+      list_any-weaker _ _
+      (λ r is.
+      let over = dominates-covered order r.value x v (and_parts _ _ is).0 better in
+      let parts = and_parts _ _ over in
+      and_from _ _ (order.transitive r.value v m.value parts.0 at.1)
+      (not_from_false _ (false_from_ne_true _ (λ back. both_ways _ (not-true _ parts.1) (order.transitive v m.value r.value at.1 back)))))
+      points has
+
+  none_has : (ms : List Point) → All (λ m. list_any (λ r. dominates point_weakly_dominates r m) points ≡ false) ms → has_value ms v ≡ false
+  none_has [] unbeaten = refl
+  none_has (m ∷ ms) unbeaten =
+      let Unbeaten : Point → Type 0 = λ m. list_any (λ r. dominates point_weakly_dominates r m) points ≡ false in
+      or_from _ _ (false_from_ne_true _ (λ same. both_ways _ (All-head Unbeaten m ms unbeaten) (beaten m same))) (none_has ms (All-tail Unbeaten m ms unbeaten))
+
+  no_member : nondominated points (Member v) ≡ No
+  no_member = member-no points v (none_has (members points) (archive-undominated point_weakly_dominates points))
+
+-- What a value that the pass remembers tells of the submissions
+module _ (entries : List Entry) (v : List ℤ) (memory : Memory) (holds : (place : ℕ) (words : List ℕ) → get_elem? memory place ≡ some (Some words) → is_submitted (length v) words entries ≡ true) where
+  -- some submission weakly dominates what it weakly dominates
+  pub recalled_submitted : recalls_value memory v ≡ true → some_weakly_dominates (submissions entries) v ≡ true
+  recalled_submitted recalls =
+      let is = held_words (held_covers v) refl memory recalls in
+      value_covers (submissions entries) (map from_word (take (length v) is.1)) v (holds is.0 is.1 is.2) is.3
+
+  -- and no member has a value that it dominates
+  pub recalled_not_member : recalls_dominating memory v ≡ true → nondominated (submissions entries) (Member v) ≡ No
+  recalled_not_member recalls =
+      let is = held_words (held_dominates v) refl memory recalls in
+      no_member (submissions entries) (map from_word (take (length v) is.1)) v (holds is.0 is.1 is.2) is.3
 
 zero_low : (n : ℕ) → nat_le 0 n ≡ true
 zero_low n = grind arith
@@ -197,3 +243,48 @@ none_falls_short v words wanted room is wanted_is a b c d first second third fou
   where
     low : (k : ℕ) → get_or wanted k 0 < 2 ^ 63
     low k = subst (λ ws. get_or ws k 0 < 2 ^ 63) (sym wanted_is) (memory_fits v is.in_range k)
+
+-- the parts of the value are at least those of which these are the first words
+abbrev held_below : List ℤ → List ℕ → Bool
+held_below v words = weakly_dominates v (map from_word (take (length v) words))
+
+-- The or of the differences of the first k words is 0 where these are equal: the words that are left then tell whether all are.
+pub record AreCompared (v : List ℤ) (words : List ℕ) (k other : ℕ) : Type 0 where
+  pub rest_covers : held_covers (drop k v) (Some (drop k words)) ≡ true
+  pub so_far : held_below v words ≡ ((other == 0) && held_below (drop k v) (drop k words))
+
+-- a word is that of a part that its part is not below
+same_word : (w : ℕ) (y : ℤ) → is_part y ≡ true → int_le y (from_word w) ≡ true → int_le (from_word w) y ≡ (w == to_word y)
+same_word w y inside le = grind (arith, ints)
+
+-- one more word
+pub compared_more : (v : List ℤ) (words : List ℕ) (k other : ℕ) → k < length v → k < length words → IsTrue (is_part (get_or v k (pos 0))) → AreCompared v words k other
+    → (y : ℕ) → y ≡ to_word (get_or v k (pos 0)) → AreCompared v words (k + 1) (bit_or other (bit_xor (get_or words k 0) y))
+compared_more v words k other low room inside so_far y y_is =
+    let part = get_or v k (pos 0) in
+    let w = get_or words k 0 in
+    let v_is : drop k v ≡ part ∷ drop (k + 1) v = drop-cons v k (pos 0) low ∙ ap (λ n. part ∷ drop n v) (let e : suc k ≡ k + 1 = omega arith in e) in
+    let ws_is : drop k words ≡ w ∷ drop (k + 1) words = drop-cons words k 0 room ∙ ap (λ n. w ∷ drop n words) (let e : suc k ≡ k + 1 = omega arith in e) in
+    let covers = and_parts (int_le part (from_word w)) (held_covers (drop (k + 1) v) (Some (drop (k + 1) words)))
+    (sym (ap₂ (λ a b. held_covers a (Some b)) v_is ws_is) ∙ so_far.rest_covers) in
+    record {
+      rest_covers = covers.1;
+      so_far =
+          so_far.so_far
+          ∙ ap (λ b. (other == 0) && b) (ap₂ held_below v_is ws_is ∙ ap (λ b. b && held_below (drop (k + 1) v) (drop (k + 1) words)) (same_word w part inside covers.0 ∙ ap (λ n. w == n) (sym y_is)))
+          ∙ by_both (other == 0) (w == y) (held_below (drop (k + 1) v) (drop (k + 1) words))
+          ∙ ap (λ b. b && held_below (drop (k + 1) v) (drop (k + 1) words)) (sym (none-or other (bit_xor w y) ∙ ap (λ b. (other == 0) && b) (same-xor w y)));
+    }
+  where
+    by_both : (a b c : Bool) → (a && (b && c)) ≡ ((a && b) && c)
+    by_both true b c = refl
+    by_both false b c = refl
+
+-- all were compared
+pub compared_all : (v : List ℤ) (words : List ℕ) (k other : ℕ) → k ≡ length v → AreCompared v words k other → held_covers v (Some words) ≡ true → not (other == 0) ≡ held_dominates v (Some words)
+compared_all v words k other all so_far covers =
+    ap not (and_true (other == 0) ∙ ap (λ b. (other == 0) && b) (sym (none_left (drop k v) (drop k words) (drop_all k v (omega arith)))) ∙ sym so_far.so_far)
+    ∙ sym (ap (λ b. b && not (held_below v words)) covers)
+  where
+    none_left : (u : List ℤ) (ws : List ℕ) → u ≡ [] → held_below u ws ≡ true
+    none_left u ws empty = ap (λ u. held_below u ws) empty

@@ -78,10 +78,10 @@ with_both true true true f (Some b) = refl
 with_both true false true f (Some b) = refl
 
 -- words are equal where no bit differs
-same-xor : (w y : ℕ) → (bit_xor w y == 0) ≡ (w == y)
+pub same-xor : (w y : ℕ) → (bit_xor w y == 0) ≡ (w == y)
 same-xor w y = grind (arith, nat_tests, xor_add_and w y, and_le_l w y, and_le_r w y, and_self w)
 
-none-or : (a b : ℕ) → (bit_or a b == 0) ≡ ((a == 0) && (b == 0))
+pub none-or : (a b : ℕ) → (bit_or a b == 0) ≡ ((a == 0) && (b == 0))
 none-or a b = grind (arith, nat_tests, or_add_and a b, and_le_l a b, le_or_l a b, le_or_r a b)
 
 -- one more pair of words

@@ -9,7 +9,7 @@ use Rattle.pls_vectors.specs.Solution.{no_items}
 use Rattle.pls_vectors.specs.Word.{to_word}
 use Rattle.pls_archive.specs.declared.point.Point.{Point}
 use Rattle.nd_rows.specs.Nodes.{Placed, Nodes, no_nodes, leaf, inner, heads, rows_of, points_of, AreApart, necessary}
-use Rattle.nd_rows.specs.Entries.{memory_words, recalls_value}
+use Rattle.nd_rows.specs.Entries.{memory_words, recalls_dominating, recalls_value}
 use Rattle.nd_rows.specs.Layout.{HasWords, HasValue, IsLinkRow, IsPointRow}
 use Rattle.nd_rows.specs.Walk.{Gathers}
 
@@ -126,3 +126,16 @@ value_not_recalled = refl
 
 value_of_other_parts : recalls_value memory (pos 2 ∷ pos 1 ∷ pos 0 ∷ []) ≡ false
 value_of_other_parts = refl
+
+-- of these it dominates (2, 1), and (3, 1) is the same value, also where other words stand past its parts
+dominated_value_recalled : recalls_dominating memory (value 2 1) ≡ true
+dominated_value_recalled = refl
+
+same_value_not_dominating : recalls_dominating memory (value 3 1) ≡ false
+same_value_not_dominating = refl
+
+same_value_with_more : recalls_dominating (Some ((2 ^ 40 + 3) ∷ (2 ^ 40 + 1) ∷ 7 ∷ 0 ∷ 0 ∷ 0 ∷ []) ∷ []) (value 3 1) ≡ false
+same_value_with_more = refl
+
+value_not_dominated : recalls_dominating memory (value 2 2) ≡ false
+value_not_dominated = refl

@@ -1,8 +1,9 @@
 -- Which entries are right at a shared ND-tree, and what the words say that a pass remembers.
-use Rattle.std.specs.Prelude.{◌≡◌, ℕ, ℤ, ◌-◌, Bool, false, Option, Some, None, List, ◌++◌, map, take, length, replicate}
+use Rattle.std.specs.Prelude.{◌≡◌, ℕ, ℤ, ◌-◌, Bool, true, false, Option, Some, None, List, ◌++◌, map, take, length, replicate}
 use Rattle.std.specs.List.{list_any}
 use Rattle.era_rows.specs.Memory.{Memory}
 use Rattle.era_rows.specs.declared.memory.TheConstants.{MEMORY_WORDS}
+use Rattle.pls_vectors.specs.Archive.{dominates}
 use Rattle.pls_vectors.specs.Dominance.{weakly_dominates}
 use Rattle.pls_vectors.specs.Word.{to_word, from_word}
 use Rattle.pls_archive.specs.declared.call.Call.{Call}
@@ -41,6 +42,20 @@ held_covers v (Some words) = weakly_dominates (map from_word (take (length v) wo
 -- that is so at some place
 abbrev pub recalls_value : Memory → List ℤ → Bool
 recalls_value memory v = list_any (held_covers v) memory
+
+-- what is remembered at a place are the words of a value that dominates this one: it weakly dominates it, and has other parts
+abbrev pub held_dominates : List ℤ → Option (List ℕ) → Bool
+held_dominates v None = false
+held_dominates v (Some words) = dominates weakly_dominates (map from_word (take (length v) words)) v
+
+-- that is so at some place
+abbrev pub recalls_dominating : Memory → List ℤ → Bool
+recalls_dominating memory v = list_any (held_dominates v) memory
+
+-- whichever of the two is asked: whether the value that weakly dominates this one has to be another one
+abbrev pub held_meets : Bool → List ℤ → Option (List ℕ) → Bool
+held_meets false = held_covers
+held_meets true = held_dominates
 
 -- the entry of a point that was added
 abbrev pub added : ℕ → ℕ → Point → ℕ → Entry

@@ -22,4 +22,4 @@ pub use layout::{FIRST_LINK, IDEAL, INNER, LEAF, NADIR, PARTS, POINT, SOL_LEN, S
 pub use points::gather;
 pub use questions::{covered, member};
 pub use reads::{part_word, sided, word};
-pub use remembers::{recalls, remember};
+pub use remembers::{recalls, recalls_better, remember};
