@@ -20,7 +20,7 @@ use Rattle.nd_rows.proofs.Sides.{word_at, part_at}
 use mathlib.Core.Option.{some-ne-none}
 
 -- no word has been read yet
-reads_none : (rows : List ℕ) (k : Known) → ReadsIn rows k k
+pub reads_none : (rows : List ℕ) (k : Known) → ReadsIn rows k k
 reads_none rows k = record {
   more = [];
   last = k.core.last;

@@ -1,5 +1,5 @@
 //! The calls of the shared tree, which wait for nobody.
-ghost use Rattle.std.specs.Prelude.{◌≡◌, ℕ, ◌+◌, ◌<◌, ◌≤◌, false, Some, IfOk, OnErr, [], length};
+ghost use Rattle.std.specs.Prelude.{◌≡◌, ℕ, ◌+◌, ◌<◌, ◌≤◌, true, false, Some, IfOk, OnErr, [], length};
 ghost use Rattle.era_core.specs.declared.sizes.TheConstants.{ROOT_ROWS, LAST_VERSION};
 ghost use Rattle.era_rows.specs.Known.{leaving};
 ghost use Rattle.era_rows.specs.Passes.{known_of, knows_of, seen_of, lists_of, marked_of, memory_of, work_of, IsPassOf};
@@ -12,8 +12,9 @@ ghost use Rattle.pls_archive.specs.Rule.{is_accepting};
 ghost use Rattle.pls_archive.specs.View.{IsConsistent};
 ghost use Rattle.pls_archive.specs.SharedCalls.{Answers, IsRefused};
 ghost use Rattle.era_one_row.specs.Ready.{HasPinned};
-ghost use Rattle.nd_rows.specs.Entries.{HasParts};
+ghost use Rattle.nd_rows.specs.Entries.{HasParts, recalls_dominating, recalls_value};
 ghost use Rattle.nd_rows.specs.Nodes.{necessary};
+ghost use Rattle.nd_rows.specs.Reads.{HasKept, HasPinnedTree, ReadsIn, ReadsNecessary};
 ghost use Rattle.nd_update.specs.Counted.{IsCounted};
 ghost use Rattle.nd_update.specs.Resting.{IsOpen};
 ghost use Rattle.nd_shared.specs.Reading.{IsUnread, ReadsOf};
@@ -22,7 +23,7 @@ ghost use Rattle.nd_shared.specs.Views.{AreListed, HasEvidence, IsReady, Opens, 
 use crate::told::Told;
 use crate::tree::{Tree, TreePass};
 use era_rows::Nothing;
-use nd_rows::{covered, gather, member};
+use nd_rows::{covered, gather, member, recalls, recalls_better};
 use pls_archive::{Call, PointList, Reply};
 use pls_vectors::Vector;
 use std::alloc::{AllocError, Global};
@@ -112,34 +113,66 @@ impl Tree {
         self.rows.unpin(pass, &Nothing);
     }
 
+    // Whether the value is covered at the pinned version, the last one that the pass knows. No row is read where a value that the pass
+    // remembers covers it.
+    fn is_covered(&self, pass: &mut TreePass, value: &Vector) -> bool
+        requires tree { (n : ℕ) × HasPinnedTree self.now.rows n pass.old × (length (seen_of pass.old) ≡ n) }
+        requires parts { length value.now ≡ self.now.rows.shape }
+        requires idle { work_of pass.old ≡ [] }
+        ensures kept { HasKept pass.old pass.new }
+        ensures tree { (n : ℕ) → HasPinnedTree self.now.rows n pass.old → HasPinnedTree self.now.rows n pass.new }
+        ensures reads { ReadsNecessary self.now.rows.shape value.now (known_of pass.old) (known_of pass.new) }
+        ensures answer { yes_or_no result ≡ nondominated (submissions (seen_of pass.old)) (Covered value.now) }
+        ensures recalled { recalls_value (memory_of pass.old) value.now ≡ true → ReadsIn [] (known_of pass.old) (known_of pass.new) }
+    {
+        recalls(pass, value) || covered(&self.rows, pass, value)
+    }
+
+    // Whether the value is that of a member at the pinned version, the last one that the pass knows. No row is read where a value that
+    // the pass remembers dominates it.
+    fn is_member(&self, pass: &mut TreePass, value: &Vector) -> bool
+        requires tree { (n : ℕ) × HasPinnedTree self.now.rows n pass.old × (length (seen_of pass.old) ≡ n) }
+        requires parts { length value.now ≡ self.now.rows.shape }
+        requires idle { work_of pass.old ≡ [] }
+        ensures kept { HasKept pass.old pass.new }
+        ensures tree { (n : ℕ) → HasPinnedTree self.now.rows n pass.old → HasPinnedTree self.now.rows n pass.new }
+        ensures reads { ReadsNecessary self.now.rows.shape value.now (known_of pass.old) (known_of pass.new) }
+        ensures answer { yes_or_no result ≡ nondominated (submissions (seen_of pass.old)) (Member value.now) }
+        ensures recalled { recalls_dominating (memory_of pass.old) value.now ≡ true → ReadsIn [] (known_of pass.old) (known_of pass.new) }
+    {
+        !recalls_better(pass, value) && member(&self.rows, pass, value)
+    }
+
     /// Whether the value is covered, and the stamp of that answer: how many points were added before.
-    /// Of the pinned tree it reads only rows that the question needs.
+    /// Of the pinned tree it reads only rows that the question needs, and none where a value that the pass remembers covers the value.
     pub fn covered_now(&self, pass: &mut TreePass, value: Vector) -> (bool, u64)
         requires ready { IsReady self.now.rows pass.old }
         requires parts { length value ≡ self.now.rows.shape }
         ensures ready { IsReady self.now.rows pass.new }
         ensures answers { Answers nondominated self.now.rows.passes (view_of pass.old) (Covered value) (yes_or_no result.0) result.1 (view_of pass.new) }
         ensures reads { ReadsOf self.now.rows.shape (necessary value) (known_of pass.old) (known_of pass.new) }
+        ensures recalled { recalls_value (memory_of pass.old) value ≡ true → ReadsOf self.now.rows.shape (λ _. []) (known_of pass.old) (known_of pass.new) }
         ensures full { (known_of pass.new).full ≡ (known_of pass.old).full }
     {
         let stamp = self.open(pass);
-        let yes = covered(&self.rows, pass, &value);
+        let yes = self.is_covered(pass, &value);
         self.tell(pass, stamp, &Call::Covered(value), &reply(yes));
         (yes, stamp)
     }
 
     /// Whether the value is that of a member, and the stamp of that answer.
-    /// Of the pinned tree it reads only rows that the question needs.
+    /// Of the pinned tree it reads only rows that the question needs, and none where a value that the pass remembers dominates the value.
     pub fn member_now(&self, pass: &mut TreePass, value: Vector) -> (bool, u64)
         requires ready { IsReady self.now.rows pass.old }
         requires parts { length value ≡ self.now.rows.shape }
         ensures ready { IsReady self.now.rows pass.new }
         ensures answers { Answers nondominated self.now.rows.passes (view_of pass.old) (Member value) (yes_or_no result.0) result.1 (view_of pass.new) }
         ensures reads { ReadsOf self.now.rows.shape (necessary value) (known_of pass.old) (known_of pass.new) }
+        ensures recalled { recalls_dominating (memory_of pass.old) value ≡ true → ReadsOf self.now.rows.shape (λ _. []) (known_of pass.old) (known_of pass.new) }
         ensures full { (known_of pass.new).full ≡ (known_of pass.old).full }
     {
         let stamp = self.open(pass);
-        let yes = member(&self.rows, pass, &value);
+        let yes = self.is_member(pass, &value);
         self.tell(pass, stamp, &Call::Member(value), &reply(yes));
         (yes, stamp)
     }
