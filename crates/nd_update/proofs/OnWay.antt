@@ -26,7 +26,7 @@ use Rattle.nd_update.proofs.Building.{still_fresh}
 use Rattle.nd_update.proofs.Descending.{IsFocused, IsAt}
 use Rattle.nd_update.proofs.Focusing.{the_leaf, leaf_focused, leaf_links, the_inner, inner_focused}
 use Rattle.nd_update.proofs.Naming.{heads-named}
-use Rattle.nd_update.proofs.Reading.{only_within, only_fresh, then_only}
+use Rattle.nd_update.proofs.Reading.{only_within, only_fresh, only_then, then_only}
 
 -- ---- the rows that named nodes link
 
@@ -141,16 +141,17 @@ module _ {L : Type 0} {G : Ghosts L Entry} (r : Rows L Entry) (objectives : ℕ)
         (in_cases x row (links_of_first ms) near))
         only
 
-  -- at a node in a fresh row, of which the first word was read, and then what belongs to its kind
-  module _ (p q : Pass L Entry G) (building : IsBuilding r p) (read : Does r [] [] [] p q) (row root steps w : ℕ) (word : (x : ℕ) → look_up (known_words (known_of p)) row 0 ≡ Some x → w ≡ x)
+  -- at a node in a fresh row, after rows on the way: its first word was read, and then what belongs to its kind
+  module _ (o p q : Pass L Entry G) (taken marked changed : List ℕ) (does : Does r taken marked changed o p) (so_far : ReadsOnly (way_left r.rows point t) (known_of o) (known_of p)) (read : Does r [] [] [] p q) (row root steps w : ℕ) (word : (x : ℕ) → look_up (known_words (known_of p)) row 0 ≡ Some x → w ≡ x)
       (at : IsAt objectives r.rows point t (known_of p) (marked_of p) row root steps) (mine : In row (known_of p).core.fresh) (first : ReadsOnly (row ∷ []) (known_of p) (known_of q)) (s : Pass L Entry G) where
-    after_first : ReadsOnly (way_left r.rows point t) (known_of q) (known_of s) → ReadsOnly (way_left r.rows point t) (known_of p) (known_of s)
-    after_first rest = then_only r [] [] [] (way_left r.rows point t) p q s read (only_fresh r p q row building mine first) rest
+    after_first : ReadsOnly (way_left r.rows point t) (known_of q) (known_of s) → ReadsOnly (way_left r.rows point t) (known_of o) (known_of s)
+    after_first rest =
+        only_then r taken marked changed (way_left r.rows point t) o p s does so_far (then_only r [] [] [] (way_left r.rows point t) p q s read (only_fresh r p q row does.building mine first) rest)
 
     mine_still : In row (known_of q).core.fresh
     mine_still = still_fresh r [] [] [] p q read row mine
 
-    pub only_leaf : w % KINDS ≡ LEAF → ((placed : List Placed) → HasLinked objectives (known_of q) row placed → length placed ≡ w / KINDS → ReadsOnly (row ∷ rows_with placed) (known_of q) (known_of s)) → ReadsOnly (way_left r.rows point t) (known_of p) (known_of s)
+    pub only_leaf : w % KINDS ≡ LEAF → ((placed : List Placed) → HasLinked objectives (known_of q) row placed → length placed ≡ w / KINDS → ReadsOnly (row ∷ rows_with placed) (known_of q) (known_of s)) → ReadsOnly (way_left r.rows point t) (known_of o) (known_of s)
     only_leaf is_leaf only =
         let one = the_leaf r objectives point t p q read row root steps w word at is_leaf in
         after_first
@@ -158,7 +159,7 @@ module _ {L : Type 0} {G : Ghosts L Entry} (r : Rows L Entry) (objectives : ℕ)
         (only one.1 (leaf_links r objectives point t p q read row root steps w word at is_leaf) one.3))
 
     pub only_inner : w % KINDS ≢ LEAF → ((b : Box) (kids : Nodes) → HasNode objectives (known_of q) row (inner row b kids no_nodes) → length (heads kids) ≡ w / KINDS → ReadsOnly (row ∷ heads kids) (known_of q) (known_of s))
-        → ReadsOnly (way_left r.rows point t) (known_of p) (known_of s)
+        → ReadsOnly (way_left r.rows point t) (known_of o) (known_of s)
     only_inner is_inner only =
         let one = the_inner r objectives point t p q read row root steps w word at is_inner in
         let is = inner_focused r objectives point t p q read row root steps w word at is_inner in

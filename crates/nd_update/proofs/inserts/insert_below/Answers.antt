@@ -1,17 +1,22 @@
-use Rattle.std.proofs.Common.{[], ◌∷◌, ◌++◌, sym, subst, ◌∙◌, arith}
+use Rattle.std.proofs.Common.{[], ◌∷◌, ◌++◌, ◌/◌, ◌≤◌, sym, subst, ◌∙◌, arith}
+use Rattle.era_core.specs.declared.sizes.TheConstants.{KINDS}
 use Rattle.era_core.specs.Versions.{Copy}
-use Rattle.era_rows.specs.Passes.{known_of}
+use Rattle.era_rows.specs.Passes.{known_of, marked_of}
+use Rattle.nd_rows.specs.Nodes.{Nodes}
+use Rattle.nd_update.specs.Building.{Does}
+use Rattle.nd_update.specs.Needed.{ReadsOnly}
 use Rattle.nd_update.specs.Updates.{MayUpdate}
 use Rattle.nd_update.proofs.Beginning.{left_node, root_unmarked, begins, node_low}
 use Rattle.nd_update.proofs.Building.{does_both, does_read, read_does, still_fresh, still_pinned}
+use Rattle.nd_update.proofs.Descending.{IsAt}
 use Rattle.nd_update.proofs.Focusing.{owned_fresh, count_low, leaf_has, child_has, stepped_fresh, stepped_on, ended}
 use Rattle.nd_update.proofs.Lacking.{does_lacks}
 use Rattle.nd_update.proofs.Landed.{landed_at}
 use Rattle.nd_update.proofs.Paying.{paid_still}
 use Rattle.nd_update.proofs.Owning.{match_none}
 use Rattle.nd_update.proofs.OnWay.{way_left, only_leaf, only_inner, only_root}
-use Rattle.nd_update.proofs.Reading.{only_then}
 use Rattle.nd_update.proofs.inserts.insert_below.Goals as goal
+use Rattle.nd_update.proofs.inserts.insert_below.Goals.{After-read_word-first, After-step_down, After-insert_in_leaf}
 
 pub own_node-requires-clause-node : goal.own_node-requires-clause-node
 own_node-requires-clause-node c =
@@ -46,21 +51,25 @@ loop-stepped-init c =
           begins r r.shape c.args.point.now p c.requires.building t may removed c.args.root is_left q own owned.0 owned.1 owned.2 owned.3 node (c.in_ok-own.ensures.boxed is_left.named has) (node_low r q owned.2.building r.shape own _ node);
     }
 
-pub overflow_cast-count : goal.overflow_cast-count
-overflow_cast-count c =
-    let left = c.requires.left in
-    let r = c.args.rows.now in
-    let at = c.loop-stepped.invariant.at left.0 left.1 left.2.0 left.2.1 in
-    let few =
-    count_low r r.shape c.args.point.now left.0 c.loop-stepped.pass c.read_word-first.new.pass c.read_word-first.ensures.does c.loop-stepped.row c.in_ok-own.own c.loop-stepped.stepped c.read_word-first.result c.read_word-first.ensures.word at in
-    omega (arith, few)
-
-pub insert_in_leaf-requires-clause-few : goal.insert_in_leaf-requires-clause-few
-insert_in_leaf-requires-clause-few c =
+-- a node has few links, so what the word counts fits
+few_linked : (c : After-read_word-first) → c.read_word-first.result / KINDS ≤ 20
+few_linked c =
     let left = c.requires.left in
     let r = c.args.rows.now in
     let at = c.loop-stepped.invariant.at left.0 left.1 left.2.0 left.2.1 in
     count_low r r.shape c.args.point.now left.0 c.loop-stepped.pass c.read_word-first.new.pass c.read_word-first.ensures.does c.loop-stepped.row c.in_ok-own.own c.loop-stepped.stepped c.read_word-first.result c.read_word-first.ensures.word at
+
+-- what was done up to the look at the first word
+done_so_far : (c : After-read_word-first) → Does c.args.rows.now c.loop-stepped.invariant.does.0 c.loop-stepped.invariant.does.1 c.loop-stepped.invariant.does.2 c.args.pass.now c.read_word-first.new.pass
+done_so_far c =
+    let so_far = c.loop-stepped.invariant.does in
+    does_read c.args.rows.now so_far.0 so_far.1 so_far.2 c.args.pass.now c.loop-stepped.pass c.read_word-first.new.pass so_far.3 c.read_word-first.ensures.does
+
+pub overflow_cast-count : goal.overflow_cast-count
+overflow_cast-count c = let few = few_linked (goal.at.overflow_cast-count c).After-read_word-first in omega (arith, few)
+
+pub insert_in_leaf-requires-clause-few : goal.insert_in_leaf-requires-clause-few
+insert_in_leaf-requires-clause-few c = few_linked (goal.at.insert_in_leaf-requires-clause-few c).After-read_word-first
 
 pub insert_in_leaf-requires-clause-linked : goal.insert_in_leaf-requires-clause-linked
 insert_in_leaf-requires-clause-linked c =
@@ -75,22 +84,18 @@ insert_in_leaf-requires-clause-paid c =
 
 pub returns-in_err-insert_in_leaf-clause-does : goal.returns-in_err-insert_in_leaf-clause-does
 returns-in_err-insert_in_leaf-clause-does c =
-    let r = c.args.rows.now in
     let so_far = c.loop-stepped.invariant.does in
-    let q = c.read_word-first.new.pass in
-    let read = does_read r so_far.0 so_far.1 so_far.2 c.args.pass.now c.loop-stepped.pass q so_far.3 c.read_word-first.ensures.does in
-    match_none c.from_residual-in_err-insert_in_leaf.result _ _ c.from_residual-in_err-insert_in_leaf.ensures (does_lacks r so_far.0 so_far.1 so_far.2 c.args.pass.now q c.insert_in_leaf.new.pass read c.in_err-insert_in_leaf.ensures.put)
+    let done = done_so_far (goal.at.returns-in_err-insert_in_leaf-clause-does c).After-read_word-first in
+    match_none c.from_residual-in_err-insert_in_leaf.result _ _ c.from_residual-in_err-insert_in_leaf.ensures (does_lacks c.args.rows.now so_far.0 so_far.1 so_far.2 c.args.pass.now c.read_word-first.new.pass c.insert_in_leaf.new.pass done c.in_err-insert_in_leaf.ensures.put)
 
 pub returns-then-first-eq-LEAF-clause-does : goal.returns-then-first-eq-LEAF-clause-does
 returns-then-first-eq-LEAF-clause-does c =
-    let r = c.args.rows.now in
     let so_far = c.loop-stepped.invariant.does in
-    let q = c.read_word-first.new.pass in
-    let read = does_read r so_far.0 so_far.1 so_far.2 c.args.pass.now c.loop-stepped.pass q so_far.3 c.read_word-first.ensures.does in
+    let done = done_so_far (goal.at.returns-then-first-eq-LEAF-clause-does c).After-read_word-first in
     let put = c.in_ok-insert_in_leaf.ensures.put in
     let taken = put.0 ∷ put.1 in
     let changed = c.loop-stepped.row ∷ taken in
-    (so_far.0 ++ taken, so_far.1 ++ [], (so_far.2 ++ changed, does_both r so_far.0 so_far.1 so_far.2 taken [] changed c.args.pass.now q c.insert_in_leaf.new.pass read put.2))
+    (so_far.0 ++ taken, so_far.1 ++ [], (so_far.2 ++ changed, does_both c.args.rows.now so_far.0 so_far.1 so_far.2 taken [] changed c.args.pass.now c.read_word-first.new.pass c.insert_in_leaf.new.pass done put.2))
 
 pub step_down-requires-clause-paid : goal.step_down-requires-clause-paid
 step_down-requires-clause-paid c =
@@ -110,11 +115,29 @@ step_down-requires-clause-node c =
 
 pub returns-in_err-row-clause-does : goal.returns-in_err-row-clause-does
 returns-in_err-row-clause-does c =
+    let so_far = c.loop-stepped.invariant.does in
+    let done = done_so_far (goal.at.returns-in_err-row-clause-does c).After-read_word-first in
+    match_none c.from_residual-in_err-row.result _ _ c.from_residual-in_err-row.ensures (does_lacks c.args.rows.now so_far.0 so_far.1 so_far.2 c.args.pass.now c.read_word-first.new.pass c.step_down.new.pass done c.in_err-row.ensures.does)
+
+-- the rows read on the way of a point through this node
+read_through : (c : After-step_down) (t : Nodes) → ReadsOnly (way_left c.args.rows.now.rows c.args.point.now t) (known_of c.args.pass.now) (known_of c.loop-stepped.pass)
+    → IsAt c.args.rows.now.shape c.args.rows.now.rows c.args.point.now t (known_of c.loop-stepped.pass) (marked_of c.loop-stepped.pass) c.loop-stepped.row c.in_ok-own.own c.loop-stepped.stepped
+    → ReadsOnly (way_left c.args.rows.now.rows c.args.point.now t) (known_of c.args.pass.now) (known_of c.step_down.new.pass)
+read_through c t only at =
     let r = c.args.rows.now in
     let so_far = c.loop-stepped.invariant.does in
-    let q = c.read_word-first.new.pass in
-    let read = does_read r so_far.0 so_far.1 so_far.2 c.args.pass.now c.loop-stepped.pass q so_far.3 c.read_word-first.ensures.does in
-    match_none c.from_residual-in_err-row.result _ _ c.from_residual-in_err-row.ensures (does_lacks r so_far.0 so_far.1 so_far.2 c.args.pass.now q c.step_down.new.pass read c.in_err-row.ensures.does)
+    only_inner r r.shape c.args.point.now t c.args.pass.now c.loop-stepped.pass c.read_word-first.new.pass so_far.0 so_far.1 so_far.2 so_far.3 only c.read_word-first.ensures.does c.loop-stepped.row c.in_ok-own.own c.loop-stepped.stepped
+    c.read_word-first.result c.read_word-first.ensures.word at c.loop-stepped.invariant.mine c.read_word-first.ensures.only c.step_down.new.pass c.if-first-eq-LEAF.false c.step_down.ensures.only
+
+-- and into this leaf
+read_into : (c : After-insert_in_leaf) (t : Nodes) → ReadsOnly (way_left c.args.rows.now.rows c.args.point.now t) (known_of c.args.pass.now) (known_of c.loop-stepped.pass)
+    → IsAt c.args.rows.now.shape c.args.rows.now.rows c.args.point.now t (known_of c.loop-stepped.pass) (marked_of c.loop-stepped.pass) c.loop-stepped.row c.in_ok-own.own c.loop-stepped.stepped
+    → ReadsOnly (way_left c.args.rows.now.rows c.args.point.now t) (known_of c.args.pass.now) (known_of c.insert_in_leaf.new.pass)
+read_into c t only at =
+    let r = c.args.rows.now in
+    let so_far = c.loop-stepped.invariant.does in
+    only_leaf r r.shape c.args.point.now t c.args.pass.now c.loop-stepped.pass c.read_word-first.new.pass so_far.0 so_far.1 so_far.2 so_far.3 only c.read_word-first.ensures.does c.loop-stepped.row c.in_ok-own.own c.loop-stepped.stepped
+    c.read_word-first.result c.read_word-first.ensures.word at c.loop-stepped.invariant.mine c.read_word-first.ensures.only c.insert_in_leaf.new.pass c.if-first-eq-LEAF.true c.insert_in_leaf.ensures.only
 
 pub loop-stepped-preserved : goal.loop-stepped-preserved
 loop-stepped-preserved c =
@@ -130,10 +153,7 @@ loop-stepped-preserved c =
     let did = c.in_ok-row.ensures.does in
     let mine = still_fresh r [] [] [] p q read row c.loop-stepped.invariant.mine in record {
       work = c.step_down.ensures.work ∙ c.read_word-first.ensures.work ∙ c.loop-stepped.invariant.work;
-      only = λ t may removed is_left.
-          only_then r so_far.0 so_far.1 so_far.2 (way_left r.rows c.args.point.now t) c.args.pass.now p s so_far.3 (c.loop-stepped.invariant.only t may removed is_left)
-          (only_inner r r.shape c.args.point.now t p q so_far.3.building read row c.in_ok-own.own c.loop-stepped.stepped c.read_word-first.result c.read_word-first.ensures.word (c.loop-stepped.invariant.at t may removed is_left)
-          c.loop-stepped.invariant.mine c.read_word-first.ensures.only s c.if-first-eq-LEAF.false c.step_down.ensures.only);
+      only = λ t may removed is_left. read_through (goal.at.loop-stepped-preserved c).After-step_down t (c.loop-stepped.invariant.only t may removed is_left) (c.loop-stepped.invariant.at t may removed is_left);
       paid = c.in_ok-row.ensures.paid;
       mine =
           stepped_fresh r r.shape c.args.point.now left.0 p q read row c.in_ok-own.own c.loop-stepped.stepped c.read_word-first.result c.read_word-first.ensures.word (c.loop-stepped.invariant.at left.0 left.1 left.2.0 left.2.1) c.if-first-eq-LEAF.false s own did.0 did.1 did.2 did.3;
@@ -166,33 +186,12 @@ returns-in_err-own-clause-only c t may removed is_left =
 
 pub returns-in_err-insert_in_leaf-clause-only : goal.returns-in_err-insert_in_leaf-clause-only
 returns-in_err-insert_in_leaf-clause-only c t may removed is_left =
-    let r = c.args.rows.now in
-    let so_far = c.loop-stepped.invariant.does in
-    let p = c.loop-stepped.pass in
-    let q = c.read_word-first.new.pass in
-    let s = c.insert_in_leaf.new.pass in
-    only_then r so_far.0 so_far.1 so_far.2 (way_left r.rows c.args.point.now t) c.args.pass.now p s so_far.3 (c.loop-stepped.invariant.only t may removed is_left)
-    (only_leaf r r.shape c.args.point.now t p q so_far.3.building c.read_word-first.ensures.does c.loop-stepped.row c.in_ok-own.own c.loop-stepped.stepped c.read_word-first.result c.read_word-first.ensures.word
-    (c.loop-stepped.invariant.at t may removed is_left) c.loop-stepped.invariant.mine c.read_word-first.ensures.only s c.if-first-eq-LEAF.true c.insert_in_leaf.ensures.only)
+    read_into (goal.at.returns-in_err-insert_in_leaf-clause-only c).After-insert_in_leaf t (c.loop-stepped.invariant.only t may removed is_left) (c.loop-stepped.invariant.at t may removed is_left)
 
 pub returns-then-first-eq-LEAF-clause-only : goal.returns-then-first-eq-LEAF-clause-only
 returns-then-first-eq-LEAF-clause-only c t may removed is_left =
-    let r = c.args.rows.now in
-    let so_far = c.loop-stepped.invariant.does in
-    let p = c.loop-stepped.pass in
-    let q = c.read_word-first.new.pass in
-    let s = c.insert_in_leaf.new.pass in
-    only_then r so_far.0 so_far.1 so_far.2 (way_left r.rows c.args.point.now t) c.args.pass.now p s so_far.3 (c.loop-stepped.invariant.only t may removed is_left)
-    (only_leaf r r.shape c.args.point.now t p q so_far.3.building c.read_word-first.ensures.does c.loop-stepped.row c.in_ok-own.own c.loop-stepped.stepped c.read_word-first.result c.read_word-first.ensures.word
-    (c.loop-stepped.invariant.at t may removed is_left) c.loop-stepped.invariant.mine c.read_word-first.ensures.only s c.if-first-eq-LEAF.true c.insert_in_leaf.ensures.only)
+    read_into (goal.at.returns-then-first-eq-LEAF-clause-only c).After-insert_in_leaf t (c.loop-stepped.invariant.only t may removed is_left) (c.loop-stepped.invariant.at t may removed is_left)
 
 pub returns-in_err-row-clause-only : goal.returns-in_err-row-clause-only
 returns-in_err-row-clause-only c t may removed is_left =
-    let r = c.args.rows.now in
-    let so_far = c.loop-stepped.invariant.does in
-    let p = c.loop-stepped.pass in
-    let q = c.read_word-first.new.pass in
-    let s = c.step_down.new.pass in
-    only_then r so_far.0 so_far.1 so_far.2 (way_left r.rows c.args.point.now t) c.args.pass.now p s so_far.3 (c.loop-stepped.invariant.only t may removed is_left)
-    (only_inner r r.shape c.args.point.now t p q so_far.3.building c.read_word-first.ensures.does c.loop-stepped.row c.in_ok-own.own c.loop-stepped.stepped c.read_word-first.result c.read_word-first.ensures.word
-    (c.loop-stepped.invariant.at t may removed is_left) c.loop-stepped.invariant.mine c.read_word-first.ensures.only s c.if-first-eq-LEAF.false c.step_down.ensures.only)
+    read_through (goal.at.returns-in_err-row-clause-only c).After-step_down t (c.loop-stepped.invariant.only t may removed is_left) (c.loop-stepped.invariant.at t may removed is_left)
