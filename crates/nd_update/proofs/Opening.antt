@@ -87,6 +87,10 @@ module _ (v : List ℤ) where
       subst (λ s. In x (r ∷ ((if s then rows_with placed else []) ++ opened v later))) (sym over)
       (let both = times-append x (rows_with placed) (opened v later) in omega (arith, here, both))
 
+  -- of a node with children that row
+  pub opened_inner : (ns : Nodes) (r : ℕ) (b : Box) (kids later : Nodes) → ns ≡ inner r b kids later → (k l : Known) → ReadsOnly (r ∷ []) k l → ReadsOnly (opened v ns) k l
+  opened_inner ns r b kids later is k l only = subst (λ ms. ReadsOnly (opened v ms) k l) (sym is) (only_row r (opened v (inner r b kids later)) k l (in_head r _) only)
+
   -- the word of such a leaf
   pub word_opens : (found : ℕ) (b : Box) (placed : List Placed) (later : Nodes) → found ≡ entry v (leaf (found % ROOT_ROWS) b placed later) → found / ROOT_ROWS ≡ 3 → weakly_dominates v b.nadir ≡ true
   word_opens found b placed later is kind =
