@@ -1,7 +1,12 @@
-use Rattle.std.proofs.Common.{◌++◌, refl, ◌∙◌, arith}
+use Rattle.std.proofs.Common.{◌≡◌, false, ◌++◌, refl, ◌∙◌, arith}
 use Rattle.era_core.proofs.ListFacts.{in-append_left}
+use Rattle.era_rows.specs.Known.{pinned_copy}
 use Rattle.era_rows.specs.Passes.{known_of}
-use Rattle.nd_update.specs.Needed.{opened, on_way}
+use Rattle.pls_archive.specs.Reply.{some_weakly_dominates}
+use Rattle.nd_rows.specs.Layout.{IsTreeOf}
+use Rattle.nd_rows.specs.Nodes.{Nodes, points_of}
+use Rattle.nd_update.specs.Building.{Lacks}
+use Rattle.nd_update.specs.Needed.{ReadsOnly, opened, on_way}
 use Rattle.nd_update.specs.Removal.{without_dominated}
 use Rattle.nd_update.proofs.Building.{builds_both, may_build}
 use Rattle.nd_update.proofs.Going.{goes_does, goes_both}
@@ -9,6 +14,7 @@ use Rattle.nd_update.proofs.Lacking.{does_lacks}
 use Rattle.nd_update.proofs.Reading.{only_more, only_append}
 use Rattle.nd_update.proofs.Publishing.{may_be, may_on, may_update, still_may, publishable}
 use Rattle.nd_update.proofs.builds.write_tree.Goals as goal
+use Rattle.nd_update.proofs.builds.write_tree.Goals.{In_err-root, After-insert}
 
 pub remove-requires-clause-building : goal.remove-requires-clause-building
 remove-requires-clause-building c = may_build c.args.rows.now c.args.pass.now c.requires.tree.1.0.is_pass c.requires.counted
@@ -23,23 +29,16 @@ pub remove-requires-clause-root : goal.remove-requires-clause-root
 remove-requires-clause-root c = c.requires.tree.1.0.rooted ∙ c.requires.tree.1.1
 
 pub returns-in_err-left-clause-goes : goal.returns-in_err-left-clause-goes
-returns-in_err-left-clause-goes c =
-    let lacks = c.in_err-left.ensures.lacks refl in
-    lacks.goes
+returns-in_err-left-clause-goes c = (c.in_err-left.ensures.lacks refl).goes
 
 pub returns-in_err-left-clause-within : goal.returns-in_err-left-clause-within
-returns-in_err-left-clause-within c =
-    let lacks = c.in_err-left.ensures.lacks refl in
-    lacks.within
+returns-in_err-left-clause-within c = (c.in_err-left.ensures.lacks refl).within
 
 pub returns-in_err-left-clause-lacks : goal.returns-in_err-left-clause-lacks
-returns-in_err-left-clause-lacks c =
-    let lacks = c.in_err-left.ensures.lacks refl in
-    λ _. lacks
+returns-in_err-left-clause-lacks c _ = c.in_err-left.ensures.lacks refl
 
 pub returns-in_err-left-clause-full : goal.returns-in_err-left-clause-full
-returns-in_err-left-clause-full c =
-    λ some. absurd (some c.from_residual.ensures)
+returns-in_err-left-clause-full c some = absurd (some c.from_residual.ensures)
 
 pub returns-in_err-left-clause-only : goal.returns-in_err-left-clause-only
 returns-in_err-left-clause-only c t is none =
@@ -65,53 +64,44 @@ insert-requires-clause-left c =
     let may = may_update r p c.requires.tree.0 tree c.args.point.now c.requires.parts (omega (arith, len.some, len.value, c.requires.parts)) (omega (arith, len.few, len.value, c.requires.parts)) c.requires.tree.1.2 in
     (tree.stands.0, still_may r p c.requires.tree.0 tree c.args.point.now may c.remove.new.pass c.in_ok-left.ensures.does.2.builds, (c.in_ok-left.left.removed, c.in_ok-left.ensures.left tree.stands.0 tree.stands.1))
 
-pub returns-in_err-root-clause-goes : goal.returns-in_err-root-clause-goes
-returns-in_err-root-clause-goes c =
+-- a removal, and an insertion for which no row was free
+lacked : (c : In_err-root) → Lacks c.args.rows.now c.args.pass.now c.insert.new.pass
+lacked c =
     let removed = c.in_ok-left.ensures.does in
-    let lacks = does_lacks c.args.rows.now removed.0 removed.1 removed.0 c.args.pass.now c.remove.new.pass c.insert.new.pass removed.2 c.in_err-root.ensures.does in
-    lacks.goes
+    does_lacks c.args.rows.now removed.0 removed.1 removed.0 c.args.pass.now c.remove.new.pass c.insert.new.pass removed.2 c.in_err-root.ensures.does
+
+pub returns-in_err-root-clause-goes : goal.returns-in_err-root-clause-goes
+returns-in_err-root-clause-goes c = (lacked (goal.at.returns-in_err-root-clause-goes c).In_err-root).goes
 
 pub returns-in_err-root-clause-within : goal.returns-in_err-root-clause-within
-returns-in_err-root-clause-within c =
-    let removed = c.in_ok-left.ensures.does in
-    let lacks = does_lacks c.args.rows.now removed.0 removed.1 removed.0 c.args.pass.now c.remove.new.pass c.insert.new.pass removed.2 c.in_err-root.ensures.does in
-    lacks.within
+returns-in_err-root-clause-within c = (lacked (goal.at.returns-in_err-root-clause-within c).In_err-root).within
 
 pub returns-in_err-root-clause-lacks : goal.returns-in_err-root-clause-lacks
-returns-in_err-root-clause-lacks c =
-    let removed = c.in_ok-left.ensures.does in
-    let lacks = does_lacks c.args.rows.now removed.0 removed.1 removed.0 c.args.pass.now c.remove.new.pass c.insert.new.pass removed.2 c.in_err-root.ensures.does in
-    λ _. lacks
+returns-in_err-root-clause-lacks c _ = lacked (goal.at.returns-in_err-root-clause-lacks c).In_err-root
 
 pub returns-in_err-root-clause-full : goal.returns-in_err-root-clause-full
-returns-in_err-root-clause-full c =
-    λ some. absurd (some c.from_residual-in_err-root.ensures)
+returns-in_err-root-clause-full c some = absurd (some c.from_residual-in_err-root.ensures)
+
+-- what both read, in any tree that may be the pinned one
+read_both : (c : After-insert) (t : Nodes) → IsTreeOf c.args.rows.now.shape (pinned_copy (known_of c.args.pass.now)) t → some_weakly_dominates (points_of t) c.args.point.now.value ≡ false
+    → ReadsOnly (opened c.args.point.now.value t ++ on_way c.args.point.now.value (without_dominated c.args.rows.now.rows c.args.point.now.value t) 0) (known_of c.args.pass.now) (known_of c.insert.new.pass)
+read_both c t is none =
+    let r = c.args.rows.now in
+    let p = c.args.pass.now in
+    let q = c.remove.new.pass in
+    let point = c.args.point.now in
+    let v = point.value in
+    let len = c.len.ensures in
+    let may = may_be r p t point c.requires.tree.1.0.is_pass is c.requires.parts (omega (arith, len.some, len.value, c.requires.parts)) (omega (arith, len.few, len.value, c.requires.parts)) none in
+    let builds = c.in_ok-left.ensures.does.2.builds in
+    only_append (opened v t) (on_way v (without_dominated r.rows v t) 0) (known_of p) (known_of q) (known_of c.insert.new.pass) builds (c.remove.ensures.only t is)
+    (c.insert.ensures.only t (may_on r p t point may q builds) c.in_ok-left.left.removed (c.in_ok-left.ensures.left t is))
 
 pub returns-in_err-root-clause-only : goal.returns-in_err-root-clause-only
-returns-in_err-root-clause-only c t is none =
-    let r = c.args.rows.now in
-    let p = c.args.pass.now in
-    let q = c.remove.new.pass in
-    let point = c.args.point.now in
-    let v = point.value in
-    let len = c.len.ensures in
-    let may = may_be r p t point c.requires.tree.1.0.is_pass is c.requires.parts (omega (arith, len.some, len.value, c.requires.parts)) (omega (arith, len.few, len.value, c.requires.parts)) none in
-    let builds = c.in_ok-left.ensures.does.2.builds in
-    only_append (opened v t) (on_way v (without_dominated r.rows v t) 0) (known_of p) (known_of q) (known_of c.insert.new.pass) builds (c.remove.ensures.only t is)
-    (c.insert.ensures.only t (may_on r p t point may q builds) c.in_ok-left.left.removed (c.in_ok-left.ensures.left t is))
+returns-in_err-root-clause-only c = read_both (goal.at.returns-in_err-root-clause-only c).After-insert
 
 pub returns-clause-only : goal.returns-clause-only
-returns-clause-only c t is none =
-    let r = c.args.rows.now in
-    let p = c.args.pass.now in
-    let q = c.remove.new.pass in
-    let point = c.args.point.now in
-    let v = point.value in
-    let len = c.len.ensures in
-    let may = may_be r p t point c.requires.tree.1.0.is_pass is c.requires.parts (omega (arith, len.some, len.value, c.requires.parts)) (omega (arith, len.few, len.value, c.requires.parts)) none in
-    let builds = c.in_ok-left.ensures.does.2.builds in
-    only_append (opened v t) (on_way v (without_dominated r.rows v t) 0) (known_of p) (known_of q) (known_of c.insert.new.pass) builds (c.remove.ensures.only t is)
-    (c.insert.ensures.only t (may_on r p t point may q builds) c.in_ok-left.left.removed (c.in_ok-left.ensures.left t is))
+returns-clause-only c = read_both (goal.at.returns-clause-only c).After-insert
 
 pub returns-clause-goes : goal.returns-clause-goes
 returns-clause-goes c =
