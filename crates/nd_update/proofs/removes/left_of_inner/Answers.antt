@@ -6,7 +6,7 @@ use Rattle.era_rows.specs.Passes.{known_of, marked_of, work_of}
 use Rattle.nd_update.specs.Left.{alive, IsBoxed}
 use Rattle.nd_update.proofs.Building.{does_none, does_both, now_fresh}
 use Rattle.nd_update.proofs.Paying.{paid_more}
-use Rattle.nd_update.proofs.Reading.{only_none, only_any, only_then}
+use Rattle.nd_update.proofs.Reading.{only_none, only_any, then_only}
 use Rattle.nd_update.proofs.Removing.{stay_pinned, row_still}
 use Rattle.nd_update.proofs.Sweeping.{nothing_stays}
 use Rattle.nd_update.proofs.RemovingAll.{single}
@@ -90,9 +90,7 @@ returns-in_err-own-clause-only c = only_any (c.args.row ∷ []) (known_of c.args
 
 pub returns-clause-only : goal.returns-clause-only
 returns-clause-only c =
-    let p = c.args.pass.now in
-    let q = c.take_row.new.pass in
-    only_then c.args.rows.now (c.in_ok-own.own ∷ []) [] [] (c.args.row ∷ []) p q c.copy_inner.new.pass c.in_ok-own.ensures.does (only_any (c.args.row ∷ []) (known_of p) (known_of q) c.take_row.ensures.only) c.copy_inner.ensures.only
+    then_only c.args.rows.now (c.in_ok-own.own ∷ []) [] [] (c.args.row ∷ []) c.args.pass.now c.take_row.new.pass c.copy_inner.new.pass c.in_ok-own.ensures.does c.take_row.ensures.only c.copy_inner.ensures.only
 
 pub returns-clause-left : goal.returns-clause-left
 returns-clause-left c v b kids named boxed left =

@@ -7,7 +7,7 @@ use Rattle.nd_update.specs.Left.{IsHitLeaf}
 use Rattle.era_core.specs.Versions.{Copy}
 use Rattle.nd_update.proofs.Building.{does_none, does_both, now_fresh}
 use Rattle.nd_update.proofs.Paying.{paid_more}
-use Rattle.nd_update.proofs.Reading.{only_none, only_any, only_then}
+use Rattle.nd_update.proofs.Reading.{only_none, only_any, then_only}
 use Rattle.nd_update.proofs.Removing.{stay_pinned, inside_now}
 use Rattle.nd_update.proofs.Sweeping.{known_rows}
 use Rattle.nd_update.proofs.LeafDone.{leaf_all, leaf_some}
@@ -62,6 +62,4 @@ returns-in_err-own-clause-only c = only_any (c.args.row ∷ []) (known_of c.args
 
 pub returns-clause-only : goal.returns-clause-only
 returns-clause-only c =
-    let p = c.args.pass.now in
-    let q = c.take_row.new.pass in
-    only_then c.args.rows.now (c.in_ok-own.own ∷ []) [] [] (c.args.row ∷ []) p q c.copy_leaf.new.pass c.in_ok-own.ensures.does (only_any (c.args.row ∷ []) (known_of p) (known_of q) c.take_row.ensures.only) c.copy_leaf.ensures.only
+    then_only c.args.rows.now (c.in_ok-own.own ∷ []) [] [] (c.args.row ∷ []) c.args.pass.now c.take_row.new.pass c.copy_leaf.new.pass c.in_ok-own.ensures.does c.take_row.ensures.only c.copy_leaf.ensures.only
