@@ -28,6 +28,9 @@ returns-then-count-eq0-clause-left c v b kids named boxed left =
           (let e = c.told.ensures in omega (arith, e)),
     )
 
+pub returns-then-count-eq0-clause-only : goal.returns-then-count-eq0-clause-only
+returns-then-count-eq0-clause-only c = only_none (c.args.row ∷ []) (known_of c.args.pass.now)
+
 pub first_left-requires-clause-some : goal.first_left-requires-clause-some
 first_left-requires-clause-some c = let n = c.count_left-count.ensures in let one = c.if-count-eq1.true in omega (arith, n, one)
 
@@ -45,6 +48,9 @@ returns-then-count-eq1-clause-left c v b kids named boxed left =
       inner_few r.rows v r.shape words kids named (known_words (known_of p)) (known_of p).core.fresh left c.args.row b (one.0 ∷ []) one.1 (omega arith) c.told-then-count-eq1.result
           (let e = c.told-then-count-eq1.ensures in let x = c.first_left.ensures one.0 [] one.1 in omega (arith, e, x)),
     )
+
+pub returns-then-count-eq1-clause-only : goal.returns-then-count-eq1-clause-only
+returns-then-count-eq1-clause-only c = only_none (c.args.row ∷ []) (known_of c.args.pass.now)
 
 pub take_row-requires-clause-paid : goal.take_row-requires-clause-paid
 take_row-requires-clause-paid c =
@@ -78,12 +84,6 @@ pub returns-clause-does : goal.returns-clause-does
 returns-clause-does c =
     let own = c.in_ok-own.own in
     (own ∷ [], omega arith, λ _. c.copy_inner.ensures.read, does_both c.args.rows.now (own ∷ []) [] [] [] [] (own ∷ []) c.args.pass.now c.take_row.new.pass c.copy_inner.new.pass c.in_ok-own.ensures.does c.copy_inner.ensures.does)
-
-pub returns-then-count-eq0-clause-only : goal.returns-then-count-eq0-clause-only
-returns-then-count-eq0-clause-only c = only_none (c.args.row ∷ []) (known_of c.args.pass.now)
-
-pub returns-then-count-eq1-clause-only : goal.returns-then-count-eq1-clause-only
-returns-then-count-eq1-clause-only c = only_none (c.args.row ∷ []) (known_of c.args.pass.now)
 
 pub returns-in_err-own-clause-only : goal.returns-in_err-own-clause-only
 returns-in_err-own-clause-only c = only_any (c.args.row ∷ []) (known_of c.args.pass.now) (known_of c.take_row.new.pass) c.take_row.ensures.only
