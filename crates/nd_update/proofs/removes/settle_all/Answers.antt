@@ -1,8 +1,11 @@
-use Rattle.std.proofs.Common.{◌≡◌, ◌+◌, ◌-◌, [], ◌++◌, refl, subst, arith}
-use Rattle.era_rows.specs.Passes.{known_of}
-use Rattle.nd_update.specs.Left.{left, entries}
-use Rattle.nd_update.specs.Needed.{opened}
-use Rattle.nd_update.specs.Sweeps.{Sweeps}
+use Rattle.std.proofs.Common.{◌≡◌, ℕ, ◌+◌, ◌-◌, [], ◌++◌, refl, subst, arith}
+use Rattle.era_rows.specs.Known.{pinned_copy}
+use Rattle.era_rows.specs.Passes.{known_of, work_of}
+use Rattle.nd_rows.specs.Layout.{IsTreeOf}
+use Rattle.nd_rows.specs.Nodes.{Nodes}
+use Rattle.nd_update.specs.Left.{left, entries, AreAllListed}
+use Rattle.nd_update.specs.Needed.{ReadsOnly, opened}
+use Rattle.nd_update.specs.Sweeps.{Settles, Sweeps}
 use Rattle.nd_update.proofs.Building.{does_none, does_both}
 use Rattle.nd_update.proofs.Lacking.{does_lacks}
 use Rattle.nd_update.proofs.Paying.{paid_none}
@@ -12,6 +15,7 @@ use Rattle.nd_update.proofs.Listing.{length-entries}
 use Rattle.nd_update.proofs.Settling.{pinned_still}
 use Rattle.nd_update.proofs.RemovingAll.{all_length, swept_first, next_settles, removed_few}
 use Rattle.nd_update.proofs.removes.settle_all.Goals as goal
+use Rattle.nd_update.proofs.removes.settle_all.Goals.{After-settle}
 
 pub loop-settled-init : goal.loop-settled-init
 loop-settled-init c = (
@@ -53,24 +57,33 @@ settle-requires-clause-node c =
 pub settle-requires-clause-paid : goal.settle-requires-clause-paid
 settle-requires-clause-paid c = c.loop-settled.invariant.2
 
+-- the node before the last one that was settled
+module _ (c : After-settle) (t : Nodes) (n : ℕ) (is : IsTreeOf c.args.rows.now.shape (pinned_copy (known_of c.args.pass.now)) t) (all : AreAllListed c.args.value.now t n (work_of c.args.pass.now)) where
+  settles : Settles c.args.rows.now c.args.value.now (left c.args.value.now (c.work_len-len.result - 1 - c.loop-settled.settled) t) (entries c.args.value.now (c.work_len-len.result - 1 - c.loop-settled.settled) t) c.loop-settled.pass c.loop-settled.removed
+  settles =
+      let so_far = c.loop-settled.invariant.0 in
+      let low = c.loop-settled-test.true in
+      let len = c.work_len-len.ensures in
+      let same = all_length c.args.rows.now c.args.value.now c.args.pass.now c.loop-settled.pass t n is all in
+      next_settles c.args.rows.now c.args.value.now c.args.pass.now c.loop-settled.pass t n is all so_far.0 so_far.1 so_far.0 so_far.2 (c.work_len-len.result - 1 - c.loop-settled.settled) c.loop-settled.removed (n - c.loop-settled.settled)
+      (omega (arith, low, len, same)) (omega (arith, low, len, same)) (c.loop-settled.invariant.1 t n is all (omega (arith, low, len, same)))
+
+  reads : ReadsOnly (opened c.args.value.now t) (known_of c.args.pass.now) (known_of c.settle.new.pass)
+  reads =
+      let v = c.args.value.now in
+      let k = c.work_len-len.result - 1 - c.loop-settled.settled in
+      let so_far = c.loop-settled.invariant.0 in
+      only_then c.args.rows.now so_far.0 so_far.1 so_far.0 (opened v t) c.args.pass.now c.loop-settled.pass c.settle.new.pass so_far.2 (c.loop-settled.invariant.3 t n is all)
+      (only_more (opened v (left v k t)) (opened v t) (known_of c.loop-settled.pass) (known_of c.settle.new.pass) (opened_left v k t) (c.settle.ensures.only (left v k t) (entries v k t) c.loop-settled.removed settles (length-entries v k t)))
+
 pub overflow_add-removed : goal.overflow_add-removed
 overflow_add-removed c =
-    let r = c.args.rows.now in
     let v = c.args.value.now in
-    let p = c.args.pass.now in
-    let q = c.loop-settled.pass in
     let listed = c.requires.listed in
     let t = listed.0 in
-    let n = listed.1 in
     let k = c.work_len-len.result - 1 - c.loop-settled.settled in
-    let so_far = c.loop-settled.invariant.0 in
-    let low = c.loop-settled-test.true in
-    let len = c.work_len-len.ensures in
-    let all = all_length r v p q t n listed.2 listed.3 in
-    let few = removed_few r v p c.settle.new.pass t k (c.loop-settled.removed + c.in_ok-removed.field-0) c.requires.building.is_pass listed.2 (entries v k t)
-    (c.in_ok-removed.ensures.settled (left v k t) (entries v k t) c.loop-settled.removed
-    (next_settles r v p q t n listed.2 listed.3 so_far.0 so_far.1 so_far.0 so_far.2 k c.loop-settled.removed (n - c.loop-settled.settled) (omega (arith, low, len, all)) (omega (arith, low, len, all))
-    (c.loop-settled.invariant.1 t n listed.2 listed.3 (omega (arith, low, len, all)))) (length-entries v k t)) in omega (arith, few)
+    let few = removed_few c.args.rows.now v c.args.pass.now c.settle.new.pass t k (c.loop-settled.removed + c.in_ok-removed.field-0) c.requires.building.is_pass listed.2 (entries v k t)
+    (c.in_ok-removed.ensures.settled (left v k t) (entries v k t) c.loop-settled.removed (settles (goal.at.overflow_add-removed c).After-settle t listed.1 listed.2 listed.3) (length-entries v k t)) in omega (arith, few)
 
 pub loop-settled-preserved : goal.loop-settled-preserved
 loop-settled-preserved c =
@@ -81,26 +94,17 @@ loop-settled-preserved c =
     let s = c.settle.new.pass in
     let so_far = c.loop-settled.invariant.0 in
     let more = c.in_ok-removed.ensures.does in
+    let now = (goal.at.loop-settled-preserved c).After-settle in
     let k = c.work_len-len.result - 1 - c.loop-settled.settled in (
       (so_far.0 ++ more.0, so_far.1 ++ more.1, does_both r so_far.0 so_far.1 so_far.0 more.0 more.1 more.0 p q s so_far.2 more.2),
       λ t n is all room.
           let low = c.loop-settled-test.true in
           let len = c.work_len-len.ensures in
           let same = all_length r v p q t n is all in
-          let swept = c.in_ok-removed.ensures.settled (left v k t) (entries v k t) c.loop-settled.removed
-          (next_settles r v p q t n is all so_far.0 so_far.1 so_far.0 so_far.2 k c.loop-settled.removed (n - c.loop-settled.settled) (omega (arith, low, len, same)) (omega (arith, low, len, same))
-          (c.loop-settled.invariant.1 t n is all (omega (arith, low, len, same)))) (length-entries v k t) in
-          subst (λ i. Sweeps r v (left v i t) (entries v i t) s (c.loop-settled.removed + c.in_ok-removed.field-0)) (let e : k ≡ n - (c.loop-settled.settled + 1) = omega (arith, low, len, same) in e) swept,
+          subst (λ i. Sweeps r v (left v i t) (entries v i t) s (c.loop-settled.removed + c.in_ok-removed.field-0)) (let e : k ≡ n - (c.loop-settled.settled + 1) = omega (arith, low, len, same) in e)
+          (c.in_ok-removed.ensures.settled (left v k t) (entries v k t) c.loop-settled.removed (settles now t n is all) (length-entries v k t)),
       c.in_ok-removed.ensures.paid,
-      λ t n is all.
-          let low = c.loop-settled-test.true in
-          let len = c.work_len-len.ensures in
-          let same = all_length r v p q t n is all in
-          only_then r so_far.0 so_far.1 so_far.0 (opened v t) p q s so_far.2 (c.loop-settled.invariant.3 t n is all)
-          (only_more (opened v (left v k t)) (opened v t) (known_of q) (known_of s) (opened_left v k t)
-          (c.settle.ensures.only (left v k t) (entries v k t) c.loop-settled.removed
-          (next_settles r v p q t n is all so_far.0 so_far.1 so_far.0 so_far.2 k c.loop-settled.removed (n - c.loop-settled.settled) (omega (arith, low, len, same)) (omega (arith, low, len, same))
-          (c.loop-settled.invariant.1 t n is all (omega (arith, low, len, same)))) (length-entries v k t))),
+      reads now,
     )
 
 pub returns-clause-does : goal.returns-clause-does
@@ -128,19 +132,4 @@ pub returns-clause-only : goal.returns-clause-only
 returns-clause-only c t n is all = c.loop-settled.invariant.3 t n is all
 
 pub returns-in_err-removed-clause-only : goal.returns-in_err-removed-clause-only
-returns-in_err-removed-clause-only c t n is all =
-    let r = c.args.rows.now in
-    let v = c.args.value.now in
-    let p = c.args.pass.now in
-    let q = c.loop-settled.pass in
-    let s = c.settle.new.pass in
-    let so_far = c.loop-settled.invariant.0 in
-    let k = c.work_len-len.result - 1 - c.loop-settled.settled in
-    let low = c.loop-settled-test.true in
-    let len = c.work_len-len.ensures in
-    let same = all_length r v p q t n is all in
-    only_then r so_far.0 so_far.1 so_far.0 (opened v t) p q s so_far.2 (c.loop-settled.invariant.3 t n is all)
-    (only_more (opened v (left v k t)) (opened v t) (known_of q) (known_of s) (opened_left v k t)
-    (c.settle.ensures.only (left v k t) (entries v k t) c.loop-settled.removed
-    (next_settles r v p q t n is all so_far.0 so_far.1 so_far.0 so_far.2 k c.loop-settled.removed (n - c.loop-settled.settled) (omega (arith, low, len, same)) (omega (arith, low, len, same))
-    (c.loop-settled.invariant.1 t n is all (omega (arith, low, len, same)))) (length-entries v k t)))
+returns-in_err-removed-clause-only c = reads (goal.at.returns-in_err-removed-clause-only c).After-settle
