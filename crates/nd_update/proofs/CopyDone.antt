@@ -1,5 +1,5 @@
 -- A node is copied into a fresh row: its links, word 0, and the box of the row before.
-use Rattle.std.proofs.Common.{ℕ, inr, List, [], ◌∷◌, ◌∙◌, arith}
+use Rattle.std.proofs.Common.{◌≡◌, ℕ, inr, [], ◌∷◌, length, ap, ◌∙◌, arith}
 use Rattle.era_core.specs.Lists.{In}
 use Rattle.era_core.specs.Versions.{Copy}
 use Rattle.era_rows.specs.Known.{pinned_copy, known_words}
@@ -13,24 +13,35 @@ use Rattle.nd_rows.specs.Layout.{IsBoxRow}
 use Rattle.nd_update.specs.Building.{IsBuilding, Does}
 use Rattle.nd_update.specs.Needed.{ReadsOnly}
 use Rattle.nd_update.proofs.Alike.{box-alike}
-use Rattle.nd_update.proofs.Building.{does_none, does_wider, does_read, writes_both, pinned_words}
+use Rattle.nd_update.proofs.Building.{does_none, does_wider, does_read, writes_both, still_fresh, pinned_words}
 use Rattle.nd_update.proofs.Reading.{only_any, only_then}
 use Rattle.nd_update.proofs.Removing.{stay_pinned, row_still}
+
+-- a box that was read as it stands has as many parts
+pub box_parts : (objectives : ℕ) (c : Copy) (row : ℕ) (b read : Box) → IsBoxRow objectives c.cells row b → read ≡ b → (length read.ideal ≡ objectives) × (length read.nadir ≡ objectives)
+box_parts objectives c row b read boxed same = (ap (λ x. length x.ideal) same ∙ boxed.ideal.parts, ap (λ x. length x.nadir) same ∙ boxed.nadir.parts)
 
 module _ {L : Type 0} {G : Ghosts L Entry} (r : Rows L Entry) where
   -- nothing was written yet
   pub writes_none : (p : Pass L Entry G) (own : ℕ) → IsBuilding r p → Does r [] [] (own ∷ []) p p
   writes_none p own building = does_wider r [] [] [] (own ∷ []) p p (λ x here. absurd (omega (arith, here))) (does_none r p building)
 
-  module _ (p q : Pass L Entry G) (t m c : List ℕ) (does : Does r t m c p q) (row : ℕ) (here : In row (pinned_copy (known_of p)).rows) where
-    pub readable_row : IsReadable row (known_of q)
-    readable_row = inr (row_still r t m c p q does row here)
+  -- the links were written, and word 0
+  module _ (own row : ℕ) (p q s1 : Pass L Entry G) (links : Does r [] [] (own ∷ []) p q) (first : Does r [] [] (own ∷ []) q s1) where
+    written : Does r [] [] (own ∷ []) p s1
+    written = writes_both r own p q s1 links first
+
+    pub own_fresh : (s2 : Pass L Entry G) → Does r [] [] [] s1 s2 → In own (known_of p).core.fresh → In own (known_of s2).core.fresh
+    own_fresh s2 read mine = still_fresh r [] [] (own ∷ []) p s2 (does_read r [] [] (own ∷ []) p s1 s2 written read) own mine
+
+    pub readable_row : In row (pinned_copy (known_of p)).rows → IsReadable row (known_of s1)
+    readable_row here = inr (row_still r [] [] (own ∷ []) p s1 written row here)
 
     -- the box stands among the words that the pass knows
-    pub box_known : (b : Box) → IsBoxRow r.shape (pinned_copy (known_of p)).cells row b → IsBoxRow r.shape (known_words (known_of q)) row b
-    box_known b boxed =
-        box-alike r.shape (pinned_copy (known_of q)).cells (known_words (known_of q)) row b (λ k w there. pinned_words r q does.building row (row_still r t m c p q does row here) k ∙ there)
-        (stay_pinned r (λ (x : Copy). IsBoxRow r.shape x.cells row b) t m c p q does boxed)
+    pub box_known : In row (pinned_copy (known_of p)).rows → (b : Box) → IsBoxRow r.shape (pinned_copy (known_of p)).cells row b → IsBoxRow r.shape (known_words (known_of s1)) row b
+    box_known here b boxed =
+        box-alike r.shape (pinned_copy (known_of s1)).cells (known_words (known_of s1)) row b (λ k w there. pinned_words r s1 written.building row (row_still r [] [] (own ∷ []) p s1 written row here) k ∙ there)
+        (stay_pinned r (λ (x : Copy). IsBoxRow r.shape x.cells row b) [] [] (own ∷ []) p s1 written boxed)
 
   -- all of it was written
   pub copy_does : (own : ℕ) (p q s1 s2 s3 : Pass L Entry G) → Does r [] [] (own ∷ []) p q → Does r [] [] (own ∷ []) q s1 → Does r [] [] [] s1 s2 → Does r [] [] (own ∷ []) s2 s3 → Does r [] [] (own ∷ []) p s3

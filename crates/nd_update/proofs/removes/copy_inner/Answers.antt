@@ -1,17 +1,17 @@
 use Rattle.std.proofs.Common.{◌≡◌, ◌+◌, ◌≤◌, [], ◌∷◌, ◌++◌, length, drop, refl, sym, ap, subst, ◌∙◌, arith, append-nil, append_assoc, length-append}
 use Rattle.std.proofs.lemmas.List.{drop_all, length-drop}
-use Rattle.era_rows.specs.Known.{known_words}
+use Rattle.era_rows.specs.Known.{pinned_copy, known_words}
 use Rattle.era_rows.specs.Passes.{known_of, work_of}
 use Rattle.nd_rows.specs.declared.layout.TheConstants.{FIRST_LINK}
 use Rattle.nd_rows.specs.Layout.{HasWords, IsBoxRow}
 use Rattle.nd_rows.specs.Nodes.{heads}
 use Rattle.nd_update.specs.Left.{alive}
-use Rattle.nd_update.proofs.Building.{writes_both, does_read, still_fresh}
+use Rattle.nd_update.proofs.Building.{writes_both, still_fresh}
 use Rattle.nd_update.proofs.Paying.{still_read}
 use Rattle.nd_update.proofs.Reading.{only_none, only_any, only_then}
 use Rattle.nd_update.proofs.Removing.{drop_there, alive_split, few_alive}
 use Rattle.nd_update.proofs.LeafSteps.{copied}
-use Rattle.nd_update.proofs.CopyDone.{writes_none, readable_row, box_known, copy_does, copy_only}
+use Rattle.nd_update.proofs.CopyDone.{writes_none, own_fresh, readable_row, box_known, box_parts, copy_does, copy_only}
 use Rattle.nd_update.proofs.removes.copy_inner.Goals as goal
 use mathlib.Core.Option.{some}
 use lib.ListN.{get_elem?}
@@ -64,13 +64,13 @@ read_box-range-requires-clause-building c = c.write_first.ensures.does.building
 
 pub read_box-range-requires-clause-row : goal.read_box-range-requires-clause-row
 read_box-range-requires-clause-row c =
-    readable_row c.args.rows.now c.args.pass.now c.write_first.new.pass [] [] (c.args.own ∷ []) (writes_both c.args.rows.now c.args.own c.args.pass.now c.loop-k.pass c.write_first.new.pass c.loop-k.invariant.0 c.write_first.ensures.does) c.args.row c.requires.row
+    readable_row c.args.rows.now c.args.own c.args.row c.args.pass.now c.loop-k.pass c.write_first.new.pass c.loop-k.invariant.0 c.write_first.ensures.does c.requires.row
 
 pub read_box-range-requires-clause-boxed : goal.read_box-range-requires-clause-boxed
 read_box-range-requires-clause-boxed c =
     let boxed = c.requires.boxed in (
       boxed.0,
-      box_known c.args.rows.now c.args.pass.now c.write_first.new.pass [] [] (c.args.own ∷ []) (writes_both c.args.rows.now c.args.own c.args.pass.now c.loop-k.pass c.write_first.new.pass c.loop-k.invariant.0 c.write_first.ensures.does) c.args.row c.requires.row boxed.0 boxed.1.boxed,
+      box_known c.args.rows.now c.args.own c.args.row c.args.pass.now c.loop-k.pass c.write_first.new.pass c.loop-k.invariant.0 c.write_first.ensures.does c.requires.row boxed.0 boxed.1.boxed,
       boxed.1.corners,
     )
 
@@ -79,18 +79,13 @@ write_box-requires-clause-building c = c.read_box-range.ensures.does.building
 
 pub write_box-requires-clause-fresh : goal.write_box-requires-clause-fresh
 write_box-requires-clause-fresh c =
-    let r = c.args.rows.now in
-    still_fresh r [] [] (c.args.own ∷ []) c.args.pass.now c.read_box-range.new.pass
-    (does_read r [] [] (c.args.own ∷ []) c.args.pass.now c.write_first.new.pass c.read_box-range.new.pass (writes_both r c.args.own c.args.pass.now c.loop-k.pass c.write_first.new.pass c.loop-k.invariant.0 c.write_first.ensures.does) c.read_box-range.ensures.does)
-    c.args.own c.requires.own
+    own_fresh c.args.rows.now c.args.own c.args.row c.args.pass.now c.loop-k.pass c.write_first.new.pass c.loop-k.invariant.0 c.write_first.ensures.does c.read_box-range.new.pass c.read_box-range.ensures.does c.requires.own
 
 pub write_box-requires-clause-parts : goal.write_box-requires-clause-parts
 write_box-requires-clause-parts c =
     let boxed = c.requires.boxed in
-    let b = boxed.0 in
-    let known = box_known c.args.rows.now c.args.pass.now c.write_first.new.pass [] [] (c.args.own ∷ []) (writes_both c.args.rows.now c.args.own c.args.pass.now c.loop-k.pass c.write_first.new.pass c.loop-k.invariant.0 c.write_first.ensures.does) c.args.row c.requires.row b boxed.1.boxed in
-    let same = c.read_box-range.ensures.boxed b known boxed.1.corners in
-    (ap (λ x. length x.ideal) same ∙ boxed.1.boxed.ideal.parts, ap (λ x. length x.nadir) same ∙ boxed.1.boxed.nadir.parts)
+    let known = box_known c.args.rows.now c.args.own c.args.row c.args.pass.now c.loop-k.pass c.write_first.new.pass c.loop-k.invariant.0 c.write_first.ensures.does c.requires.row boxed.0 boxed.1.boxed in
+    box_parts c.args.rows.now.shape (pinned_copy (known_of c.args.pass.now)) c.args.row boxed.0 _ boxed.1.boxed (c.read_box-range.ensures.boxed boxed.0 known boxed.1.corners)
 
 pub returns-clause-does : goal.returns-clause-does
 returns-clause-does c = copy_does c.args.rows.now c.args.own c.args.pass.now c.loop-k.pass c.write_first.new.pass c.read_box-range.new.pass c.write_box.new.pass c.loop-k.invariant.0 c.write_first.ensures.does c.read_box-range.ensures.does c.write_box.ensures.does
@@ -116,7 +111,7 @@ returns-clause-inner c b named is rows =
     let written = subst (HasWords (known_words (known_of c.loop-k.pass)) c.args.own FIRST_LINK) all so_far.1 in
     let len : c.loop-k.place ≡ length (heads named) = sym so_far.2 ∙ ap length all in
     let few : length (heads named) ≤ 20 = (let n = ap length rows in let most = few_alive (drop c.args.from work) in let m = length-drop c.args.from work in let low = c.requires.few in omega (arith, n, most, m, low)) in
-    let known = box_known c.args.rows.now c.args.pass.now c.write_first.new.pass [] [] (c.args.own ∷ []) (writes_both c.args.rows.now c.args.own c.args.pass.now c.loop-k.pass c.write_first.new.pass c.loop-k.invariant.0 c.write_first.ensures.does) c.args.row c.requires.row b is.boxed in
+    let known = box_known c.args.rows.now c.args.own c.args.row c.args.pass.now c.loop-k.pass c.write_first.new.pass c.loop-k.invariant.0 c.write_first.ensures.does c.requires.row b is.boxed in
     record {
       links = copied c.args.own 1 c.loop-k.place (heads named) (known_words (known_of c.loop-k.pass)) (known_words (known_of c.write_first.new.pass)) (known_words (known_of c.read_box-range.new.pass)) (known_words (known_of c.write_box.new.pass)) written len few
           c.write_first.ensures.outside c.write_first.ensures.word c.read_box-range.ensures.does.elsewhere c.write_box.ensures.outside;

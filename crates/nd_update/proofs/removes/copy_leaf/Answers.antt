@@ -1,16 +1,16 @@
 use Rattle.std.proofs.Common.{◌≡◌, ◌<◌, ◌≤◌, [], ◌∷◌, length, take, refl, sym, ap, subst, ◌∙◌, arith}
-use Rattle.era_rows.specs.Known.{known_words}
+use Rattle.era_rows.specs.Known.{pinned_copy, known_words}
 use Rattle.era_rows.specs.Passes.{known_of}
 use Rattle.nd_rows.specs.declared.layout.TheConstants.{FIRST_LINK}
 use Rattle.nd_rows.specs.Layout.{HasWords, IsBoxRow}
 use Rattle.nd_rows.specs.Nodes.{rows_with}
 use Rattle.nd_rows.proofs.Pending.{length_rows}
 use Rattle.nd_update.specs.Removal.{staying}
-use Rattle.nd_update.proofs.Building.{writes_both, does_read, still_fresh}
+use Rattle.nd_update.proofs.Building.{writes_both, still_fresh}
 use Rattle.nd_update.proofs.Reading.{only_none, only_then}
 use Rattle.nd_update.proofs.Removing.{row_still}
 use Rattle.nd_update.proofs.LeafSteps.{take_all, staying_few, stays_more, copied, point, point_drop, point_link}
-use Rattle.nd_update.proofs.CopyDone.{writes_none, readable_row, box_known, copy_does, copy_only}
+use Rattle.nd_update.proofs.CopyDone.{writes_none, own_fresh, readable_row, box_known, box_parts, copy_does, copy_only}
 use Rattle.nd_update.proofs.removes.copy_leaf.Goals as goal
 
 pub loop-k-init : goal.loop-k-init
@@ -72,13 +72,13 @@ read_box-range-requires-clause-building c = c.write_first.ensures.does.building
 
 pub read_box-range-requires-clause-row : goal.read_box-range-requires-clause-row
 read_box-range-requires-clause-row c =
-    readable_row c.args.rows.now c.args.pass.now c.write_first.new.pass [] [] (c.args.own ∷ []) (writes_both c.args.rows.now c.args.own c.args.pass.now c.loop-k.pass c.write_first.new.pass c.loop-k.invariant.0 c.write_first.ensures.does) c.args.row c.requires.row
+    readable_row c.args.rows.now c.args.own c.args.row c.args.pass.now c.loop-k.pass c.write_first.new.pass c.loop-k.invariant.0 c.write_first.ensures.does c.requires.row
 
 pub read_box-range-requires-clause-boxed : goal.read_box-range-requires-clause-boxed
 read_box-range-requires-clause-boxed c =
     let leaf = c.requires.leaf in (
       leaf.1,
-      box_known c.args.rows.now c.args.pass.now c.write_first.new.pass [] [] (c.args.own ∷ []) (writes_both c.args.rows.now c.args.own c.args.pass.now c.loop-k.pass c.write_first.new.pass c.loop-k.invariant.0 c.write_first.ensures.does) c.args.row c.requires.row leaf.1 leaf.3.boxed,
+      box_known c.args.rows.now c.args.own c.args.row c.args.pass.now c.loop-k.pass c.write_first.new.pass c.loop-k.invariant.0 c.write_first.ensures.does c.requires.row leaf.1 leaf.3.boxed,
       leaf.3.corners,
     )
 
@@ -87,18 +87,13 @@ write_box-requires-clause-building c = c.read_box-range.ensures.does.building
 
 pub write_box-requires-clause-fresh : goal.write_box-requires-clause-fresh
 write_box-requires-clause-fresh c =
-    let r = c.args.rows.now in
-    still_fresh r [] [] (c.args.own ∷ []) c.args.pass.now c.read_box-range.new.pass
-    (does_read r [] [] (c.args.own ∷ []) c.args.pass.now c.write_first.new.pass c.read_box-range.new.pass (writes_both r c.args.own c.args.pass.now c.loop-k.pass c.write_first.new.pass c.loop-k.invariant.0 c.write_first.ensures.does) c.read_box-range.ensures.does)
-    c.args.own c.requires.own
+    own_fresh c.args.rows.now c.args.own c.args.row c.args.pass.now c.loop-k.pass c.write_first.new.pass c.loop-k.invariant.0 c.write_first.ensures.does c.read_box-range.new.pass c.read_box-range.ensures.does c.requires.own
 
 pub write_box-requires-clause-parts : goal.write_box-requires-clause-parts
 write_box-requires-clause-parts c =
     let leaf = c.requires.leaf in
-    let b = leaf.1 in
-    let known = box_known c.args.rows.now c.args.pass.now c.write_first.new.pass [] [] (c.args.own ∷ []) (writes_both c.args.rows.now c.args.own c.args.pass.now c.loop-k.pass c.write_first.new.pass c.loop-k.invariant.0 c.write_first.ensures.does) c.args.row c.requires.row b leaf.3.boxed in
-    let same = c.read_box-range.ensures.boxed b known leaf.3.corners in
-    (ap (λ x. length x.ideal) same ∙ leaf.3.boxed.ideal.parts, ap (λ x. length x.nadir) same ∙ leaf.3.boxed.nadir.parts)
+    let known = box_known c.args.rows.now c.args.own c.args.row c.args.pass.now c.loop-k.pass c.write_first.new.pass c.loop-k.invariant.0 c.write_first.ensures.does c.requires.row leaf.1 leaf.3.boxed in
+    box_parts c.args.rows.now.shape (pinned_copy (known_of c.args.pass.now)) c.args.row leaf.1 _ leaf.3.boxed (c.read_box-range.ensures.boxed leaf.1 known leaf.3.corners)
 
 pub returns-clause-does : goal.returns-clause-does
 returns-clause-does c = copy_does c.args.rows.now c.args.own c.args.pass.now c.loop-k.pass c.write_first.new.pass c.read_box-range.new.pass c.write_box.new.pass c.loop-k.invariant.0 c.write_first.ensures.does c.read_box-range.ensures.does c.write_box.ensures.does
@@ -116,7 +111,7 @@ returns-clause-leaf c v b placed is =
     let written = subst (λ ps. HasWords (known_words (known_of c.loop-k.pass)) c.args.own FIRST_LINK (rows_with (staying v ps))) all so_far.0 in
     let len : c.loop-k.place ≡ length (rows_with stay) = so_far.1 ∙ ap (λ ps. length (staying v ps)) all ∙ sym (length_rows stay) in
     let few : length (rows_with stay) ≤ 20 = (let fewer = staying_few v placed (length placed) in let same = ap (λ ps. length (staying v ps)) (take_all placed (length placed) (omega arith)) in let most = is.few in let rows = length_rows stay in omega (arith, fewer, same, most, rows)) in
-    let known = box_known c.args.rows.now c.args.pass.now c.write_first.new.pass [] [] (c.args.own ∷ []) (writes_both c.args.rows.now c.args.own c.args.pass.now c.loop-k.pass c.write_first.new.pass c.loop-k.invariant.0 c.write_first.ensures.does) c.args.row c.requires.row b is.boxed in
+    let known = box_known c.args.rows.now c.args.own c.args.row c.args.pass.now c.loop-k.pass c.write_first.new.pass c.loop-k.invariant.0 c.write_first.ensures.does c.requires.row b is.boxed in
     record {
       links = copied c.args.own 0 c.loop-k.place (rows_with stay) (known_words (known_of c.loop-k.pass)) (known_words (known_of c.write_first.new.pass)) (known_words (known_of c.read_box-range.new.pass)) (known_words (known_of c.write_box.new.pass)) written len few
           c.write_first.ensures.outside c.write_first.ensures.word c.read_box-range.ensures.does.elsewhere c.write_box.ensures.outside;
