@@ -142,8 +142,8 @@ module _ {L : Type 0} {G : Ghosts L Entry} (r : Rows L Entry) (objectives : ℕ)
         only
 
   -- at a node in a fresh row, after rows on the way: its first word was read, and then what belongs to its kind
-  module _ (o p q : Pass L Entry G) (taken marked changed : List ℕ) (does : Does r taken marked changed o p) (so_far : ReadsOnly (way_left r.rows point t) (known_of o) (known_of p)) (read : Does r [] [] [] p q) (row root steps w : ℕ) (word : (x : ℕ) → look_up (known_words (known_of p)) row 0 ≡ Some x → w ≡ x)
-      (at : IsAt objectives r.rows point t (known_of p) (marked_of p) row root steps) (mine : In row (known_of p).core.fresh) (first : ReadsOnly (row ∷ []) (known_of p) (known_of q)) (s : Pass L Entry G) where
+  module _ (o p q : Pass L Entry G) (taken marked changed : List ℕ) (does : Does r taken marked changed o p) (so_far : ReadsOnly (way_left r.rows point t) (known_of o) (known_of p)) (read : Does r [] [] [] p q)
+      (row root steps w : ℕ) (word : (x : ℕ) → look_up (known_words (known_of p)) row 0 ≡ Some x → w ≡ x) (at : IsAt objectives r.rows point t (known_of p) (marked_of p) row root steps) (mine : In row (known_of p).core.fresh) (first : ReadsOnly (row ∷ []) (known_of p) (known_of q)) (s : Pass L Entry G) where
     after_first : ReadsOnly (way_left r.rows point t) (known_of q) (known_of s) → ReadsOnly (way_left r.rows point t) (known_of o) (known_of s)
     after_first rest =
         only_then r taken marked changed (way_left r.rows point t) o p s does so_far (then_only r [] [] [] (way_left r.rows point t) p q s read (only_fresh r p q row does.building mine first) rest)

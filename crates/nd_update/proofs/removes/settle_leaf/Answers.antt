@@ -1,9 +1,9 @@
 use Rattle.std.proofs.Common.{rules, ◌≡◌, inr, ℕ, zero, suc, ◌/◌, ◌<◌, List, [], ◌∷◌, length, set, refl, sym, ap, ◌∙◌, arith}
-use Rattle.era_core.proofs.ListFacts.{in_head}
 use Rattle.era_core.specs.Versions.{Copy}
-use Rattle.pls_vectors.specs.Box.{Box}
+use Rattle.era_core.proofs.ListFacts.{in_head}
 use Rattle.era_rows.specs.Known.{known_words, pinned_copy}
 use Rattle.era_rows.specs.Passes.{known_of}
+use Rattle.pls_vectors.specs.Box.{Box}
 use Rattle.nd_rows.specs.Nodes.{Placed, Nodes, no_nodes, leaf, rows_with}
 use Rattle.nd_rows.specs.Walk.{HasPlaced}
 use Rattle.nd_update.specs.Building.{Does}
