@@ -7,14 +7,15 @@ use Rattle.pls_archive.specs.declared.call.Call.TheVariants.{Update}
 use Rattle.pls_archive.specs.declared.call.Entry.{Entry}
 use Rattle.pls_archive.specs.Lists.{Every, how_many}
 use Rattle.pls_archive.specs.History.{submissions}
-use Rattle.pls_archive.specs.Explorations.{tasks, calls_for}
+use Rattle.pls_archive.specs.Explorations.{CallerRun, tasks, calls_for}
+use Rattle.pls_archive.specs.SearchRun.{SubmitsFirst}
 use Rattle.pls_archive.proofs.Every.{Every-append}
 use Rattle.pls_pool.specs.declared.cause.Cause.{Cause}
 use Rattle.pls_pool.specs.declared.cause.Cause.TheVariants.{Spent, Full, Memory}
 use Rattle.pls_problem.specs.declared.instance.Instance.{Instance}
 use Rattle.pls_search.specs.Neighbours.{IsPointOf}
 use Rattle.pls_search.specs.Workers.{task_of, Hands, Did, StandsFor, IsNewWorker}
-use Rattle.pls_search.specs.Steps.{UnlessMemory, Submits, SubmitsAll, SubmitsStarts}
+use Rattle.pls_search.specs.Steps.{UnlessMemory, Submits, SubmitsAll}
 use Rattle.pls_search.proofs.Moments.{Did-none, Did-then, Did-after}
 use Rattle.pls_search.proofs.Neighbourhoods.{submissions-calls}
 
@@ -100,6 +101,14 @@ StandsFor-started i es first now new did each =
         evaluated_are = omega (arith, did.evaluated_are, new.evaluated);
       };
     }
+
+-- The starts were submitted, or some of them in order. What a new worker has in its hands then stands for a run that begins so.
+pub record SubmitsStarts (i : Instance) (starts : List Point) (before after : Hands) (spent full : Bool) : Type 0 where
+  pub unspent : spent ≡ false
+  pub begins :
+      IsNewWorker before
+      → (r : CallerRun) × SubmitsFirst starts r.starts × (r.explorations ≡ []) × ((length r.starts == length starts) ≡ not full)
+      × StandsFor i false false after r
 
 -- what was submitted begins a run; halting changes nothing of it
 pub SubmitsStarts-by_end :

@@ -1,6 +1,5 @@
 -- What the first worker stands for once it has submitted the starts.
-use Rattle.std.proofs.Common.{◌≡◌, ◌≢◌, ◌↔◌, ◌⊎◌, inl, inr, ℕ, zero, suc, ◌+◌, ◌<◌, ◌≤◌, ◌==◌, ◌-◌, Bool, true, false, List, [], ◌∷◌, ◌++◌, length, map, take, drop, Some, Result, Ok, Err, refl, ap, sym, subst, ◌∙◌, arith, add-one, slice_index_or}
-use Rattle.std.specs.List.{remove}
+use Rattle.std.proofs.Common.{◌≡◌, ◌≢◌, ◌↔◌, ◌⊎◌, inl, inr, ℕ, zero, suc, ◌<◌, ◌≤◌, ◌==◌, true, false, List, [], ◌++◌, length, map, take, Result, Ok, Err, OnOk, IfErr, refl, ap, sym, subst, ◌∙◌, arith}
 use Rattle.std.proofs.lemmas.Bool.{eqb-false, false≢true}
 use Rattle.std.proofs.lemmas.List.{length-map, length-drop, length-take}
 use Rattle.pls_archive.specs.declared.point.Point.{Point}
@@ -13,16 +12,13 @@ use Rattle.pls_archive.specs.Explorations.{CallerRun, tasks}
 use Rattle.pls_archive.specs.View.{View, new_view, IsConsistent}
 use Rattle.pls_pool.specs.declared.cause.Cause.{Cause}
 use Rattle.pls_pool.specs.declared.cause.Cause.TheVariants.{Spent, Full, Memory}
-use Rattle.pls_pool.specs.declared.tally.Tally.{Tally}
 use Rattle.pls_problem.specs.declared.instance.Instance.{Instance}
-use Rattle.pls_search.specs.Crews.{AreSeated}
 use Rattle.pls_search.specs.declared.task.Task.{Task as Waiting}
 use Rattle.pls_search.specs.Workers.{task_of, Hands, Work, LinesUp, StaysInLine, GoesOn, IsNewWorker, StandsFor, work_of}
-use Rattle.pls_search.specs.Steps.{UnlessMemory, SubmitsStarts}
+use Rattle.pls_search.specs.Steps.{UnlessMemory}
+use Rattle.pls_search.proofs.Beginning.{SubmitsStarts}
 use Rattle.pls_search.specs.Leaving.{OfTeam, Lacks, IsUnhalted, AreReady}
 use Rattle.pls_search.proofs.TeamJoins.{HasDone-stands, none_missing, team_begins}
-use mathlib.Core.Option.{some}
-use lib.ListN.{get_elem?}
 
 -- a pass that has made no call
 pub new_view-consistent : (reply : List Point → Call → Reply) (started number : ℕ) → IsConsistent reply started (new_view number)
@@ -30,17 +26,6 @@ new_view-consistent reply started number = record {
   observed = record { legal = tt; accepted = tt; begun = tt };
   lists = (record { named = tt; told = refl; known = tt; judged = tt; rising = tt }, tt);
 }
-
--- the first of some passes or seats in order of number, and the others
-module _ {T : Type 0} (P : ℕ → T → Type 0) where
-  pub Seated-removed :
-      (all rest : List T) (x : T) → 1 ≤ length all → x ≡ slice_index_or all 0 x → rest ≡ remove all 0 → AreSeated P all
-      → P 0 x × AreSeated (λ k y. P (k + 1) y) rest
-  Seated-removed [] rest x many is left seated = absurd (omega (arith, many))
-  Seated-removed (y ∷ ys) rest x many is left seated = (
-    subst (P 0) (sym is) (seated 0 y refl),
-    λ k z found. subst (λ n. P n z) (sym (add-one k)) (seated (suc k) z (subst (λ xs. get_elem? xs k ≡ some z) left found)),
-  )
 
 -- fewer starts were submitted than there are
 submitted-few : (starts : List Point) (es : List Entry) → SubmitsFirst starts es → length es ≤ length starts
@@ -72,6 +57,15 @@ not_memory u e = cc
 
 full_not_memory : failed Full ≡ Err Memory → ⊥
 full_not_memory e = cc
+
+-- a claim about how something ended, by what it ended with
+pub on_ok : {X : Type 0} (end : Result (Unit {0}) Cause) → ((u : Unit {0}) → end ≡ Ok u → X) → OnOk end X
+on_ok (Ok u) claim = claim u refl
+on_ok (Err cause) claim = tt
+
+pub on_err : {P : Cause → Type 0} (end : Result (Unit {0}) Cause) → ((cause : Cause) → end ≡ Err cause → P cause) → IfErr end P
+on_err (Ok u) claim = tt
+on_err (Err cause) claim = claim cause refl
 
 pub unfull-begun : {A B : Type 0} (u : Unit {0}) (end : Result (Unit {0}) Cause) → end ≡ Ok u → A ↔ (B ⊎ (end ≡ Err Full)) → (B → ⊥) → A → ⊥
 unfull-begun {B = B} u end is full none a = by_case (full.0 a)

@@ -1,8 +1,9 @@
--- The last of some passes or seats in order of number.
-use Rattle.std.proofs.Common.{◌≡◌, ℕ, zero, suc, ◌+◌, Option, None, Some, IfSome, OnSome, List, [], ◌∷◌, ◌++◌, length, refl, ap, sym, subst, ◌∙◌, arith}
+-- The first and the last of some passes or seats in order of number.
+use Rattle.std.proofs.Common.{◌≡◌, ℕ, zero, suc, ◌+◌, ◌≤◌, List, [], ◌∷◌, ◌++◌, length, refl, ap, sym, subst, ◌∙◌, arith, slice_index_or}
+use Rattle.std.specs.List.{remove}
 use Rattle.std.proofs.lemmas.List.{length-append}
 use Rattle.pls_search.specs.Crews.{AreSeated}
-use mathlib.Core.Option.{some, none}
+use mathlib.Core.Option.{some}
 use lib.ListN.{get_elem?}
 
 module _ {T : Type 0} (x : T) where
@@ -15,23 +16,29 @@ module _ {T : Type 0} (x : T) where
   at_first (z ∷ xs) zero y found = found
   at_first (z ∷ xs) (suc k) y found = at_first xs k y found
 
-  pub Seated-last : (P : ℕ → T → Type 0) (all xs : List T) → all ≡ xs ++ x ∷ [] → AreSeated P all → AreSeated P xs × P (length xs) x
-  Seated-last P all xs split seated =
-      let here = subst (AreSeated P) split seated in (
-        (λ k y found. here k y (at_first xs k y found)),
-        here (length xs) x (at_last xs),
+module _ {T : Type 0} (P : ℕ → T → Type 0) where
+  -- counted from 0
+  pub Seated-from : (all : List T) → AreSeated P all → AreSeated (λ k y. P (0 + k) y) all
+  Seated-from all seated k y found = let here : k ≡ 0 + k = omega arith in subst (λ n. P n y) here (seated k y found)
+
+  -- the one with the number 0, and the others
+  pub Seated-first :
+      (all rest : List T) (x : T) → 1 ≤ length all → x ≡ slice_index_or all 0 x → rest ≡ remove all 0 → AreSeated (λ k y. P (0 + k) y) all
+      → P 0 x × AreSeated (λ k y. P (1 + k) y) rest
+  Seated-first [] rest x many is left seated = absurd (omega (arith, many))
+  Seated-first (y ∷ ys) rest x many is left seated = (
+    subst (P 0) (sym is) (seated 0 y refl),
+    λ k z found. let here : 0 + suc k ≡ 1 + k = omega arith in subst (λ n. P n z) here (seated (suc k) z (subst (λ xs. get_elem? xs k ≡ some z) left found)),
+  )
+
+  -- of those with the numbers 1 to n, the last one, and the others
+  pub Seated-last :
+      (n : ℕ) (all rest : List T) (x : T) → n ≡ length all → all ≡ rest ++ x ∷ [] → AreSeated (λ k y. P (1 + k) y) all
+      → P n x × AreSeated (λ k y. P (1 + k) y) rest
+  Seated-last n all rest x count split seated =
+      let here = subst (AreSeated (λ k y. P (1 + k) y)) split seated in
+      let long = ap length split ∙ length-append rest (x ∷ []) in
+      let last : 1 + length rest ≡ n = omega (arith, long, count) in (
+        subst (λ k. P k x) last (here (length rest) x (at_last x rest)),
+        λ k y found. here k y (at_first x rest k y found),
       )
-
--- what is popped from a list, and what is left of it
-module _ {W T : Type 0} (f : W → T) (all xs : List T) where
-  pub Seated-rest : (P : ℕ → T → Type 0) (r : Option W) → IfSome r (λ w. all ≡ xs ++ f w ∷ []) → AreSeated P all → OnSome r (AreSeated P xs)
-  Seated-rest P None split seated = tt
-  Seated-rest P (Some w) split seated = (Seated-last (f w) P all xs split seated).0
-
-  pub Seated-one :
-      (Q : ℕ → T → Type 0) (n : ℕ) (r : Option W) → n ≡ length all → IfSome r (λ w. all ≡ xs ++ f w ∷ []) → AreSeated (λ k x. Q (k + 1) x) all
-      → IfSome r (λ w. Q n (f w))
-  Seated-one Q n None is split seated = tt
-  Seated-one Q n (Some w) is split seated =
-      let long = ap length split ∙ length-append xs (f w ∷ []) in
-      subst (λ k. Q k (f w)) (sym (is ∙ long)) (Seated-last (f w) (λ k x. Q (k + 1) x) all xs split seated).1

@@ -1,13 +1,9 @@
 -- The first worker with the starts that it submitted, and with workers that have done nothing.
-use Rattle.std.proofs.Common.{◌≡◌, ◌≢◌, ℕ, zero, suc, ◌+◌, ◌<◌, ◌≤◌, Bool, true, false, List, [], ◌∷◌, ◌++◌, length, Err, refl, ap, ap₂, sym, subst, ◌∙◌, arith, inl, inr, add-one}
-use Rattle.std.specs.List.{range_with_len}
-use Rattle.std.proofs.lemmas.Bool.{false≢true}
+use Rattle.std.proofs.Common.{◌≡◌, ℕ, ◌+◌, List, [], ◌∷◌, ◌++◌, refl, ap, arith}
 use Rattle.std.proofs.lemmas.List.{length-append}
-use Rattle.std.proofs.lemmas.List.FromFn.{length-range_with_len}
-use Rattle.pls_vectors.proofs.Ranges.{range_with_len-suc}
 use Rattle.pls_archive.specs.declared.point.Point.{Point}
 use Rattle.pls_archive.specs.View.{View, new_view}
-use Rattle.pls_pool.specs.Accounts.{Account, In, Apart, IsNew}
+use Rattle.pls_pool.specs.Accounts.{IsNew}
 use Rattle.pls_pool.specs.Tallies.{started}
 use Rattle.pls_pool.specs.declared.tally.Tally.{Tally}
 use Rattle.pls_problem.specs.declared.instance.Instance.{Instance}
@@ -32,32 +28,6 @@ IsNewWorker-made h number seat moves seats view new tally explored evaluated = r
   explored = explored;
   evaluated = evaluated;
 }
-
--- ---- the numbers of joined seats
-
-range-below : (a n j : ℕ) → In j (range_with_len a n) → j < a + n
-range-below a zero j is = absurd is
-range-below a (suc n) j (inl is) = omega (arith, is)
-range-below a (suc n) j (inr is) = let later = range-below (a + 1) n j is in omega (arith, later)
-
-module _ (ms ns : List ℕ) (k n : ℕ) (next : k + 1 ≡ n) (first : ms ≡ range_with_len 0 (k + 1)) (one : ns ≡ n ∷ []) where
-  pub numbers-joined : (after : List ℕ) → after ≡ ms ++ ns → after ≡ range_with_len 0 (n + 1)
-  numbers-joined after joined =
-      joined
-      ∙ (ap₂ (λ (xs ys : List ℕ). xs ++ ys) (first ∙ ap (range_with_len 0) next) one
-      ∙ (sym (range_with_len-suc 0 n n (omega arith)) ∙ ap (range_with_len 0) (sym (add-one n))))
-
-  pub numbers-count : length ms + length ns ≡ n + 1
-  numbers-count =
-      let many = ap length first ∙ length-range_with_len 0 (k + 1) in
-      let single = ap length one in omega (arith, many, single, next)
-
-  pub numbers-apart : Apart ms ns
-  numbers-apart = λ j among alone. apart j (subst (In j) first among) (subst (In j) one alone)
-    where
-      apart : (j : ℕ) → In j (range_with_len 0 (k + 1)) → In j (n ∷ []) → ⊥
-      apart j among (inl is) = let below = range-below 0 (k + 1) j among in omega (arith, is, below, next)
-      apart j among (inr none) = none
 
 -- ---- the team where a start is missing
 

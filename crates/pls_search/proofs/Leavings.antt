@@ -1,5 +1,5 @@
 -- How workers leave: one goes on, and one takes over what another did.
-use Rattle.std.proofs.Common.{◌≡◌, ◌⊎◌, ℕ, ◌+◌, ◌<◌, ◌≤◌, ◌==◌, Bool, true, false, List, [], ◌∷◌, ◌++◌, length, map, Result, Ok, Err, OnOk, refl, ap, ap₂, sym, subst, ◌∙◌, arith, inl, inr}
+use Rattle.std.proofs.Common.{◌≡◌, ℕ, ◌+◌, ◌==◌, Bool, true, false, List, [], ◌∷◌, ◌++◌, length, map, Result, Ok, Err, OnOk, refl, ap, ap₂, subst, ◌∙◌, arith}
 use Rattle.std.proofs.lemmas.Bool.{eqb-true, eqb-false}
 use Rattle.std.proofs.lemmas.List.{append-nil, length-append}
 use Rattle.pls_archive.specs.declared.point.Point.{Point}
@@ -21,8 +21,8 @@ use Rattle.pls_search.specs.Workers.{Hands, Work, LinesUp, GoesOn, HasLeft, IsNe
 use Rattle.pls_search.specs.Steps.{UnlessMemory, causes_of}
 use Rattle.pls_search.specs.Onwards.{ExploresOn, grown}
 use Rattle.pls_search.specs.InLine.{ExploresInLine}
-use Rattle.pls_search.specs.Teams.{fulls, spents, IsTeam, JoinsHands}
-use Rattle.pls_search.specs.Leaving.{OfTeam, IsUnhalted, IsIdle, LeavesBy, Leaves, graver, Departs}
+use Rattle.pls_search.specs.Teams.{fulls, spents, JoinsHands}
+use Rattle.pls_search.specs.Leaving.{OfTeam, IsUnhalted, IsIdle, Leaves, graver, Departs}
 use Rattle.pls_search.proofs.TeamEnds.{no_task_open}
 use Rattle.pls_search.proofs.TeamJoins.{team_goes_on, team_joins}
 use Rattle.pls_search.proofs.Onwards.{no_work, HasDone-none, HasDone-grown}

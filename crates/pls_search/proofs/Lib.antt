@@ -1,4 +1,5 @@
 pub mod Moments
+pub mod Keeping
 pub mod Counting
 pub mod Neighbourhoods
 pub mod Turns
@@ -18,4 +19,5 @@ pub mod Concluded
 pub mod Leavings
 pub mod Crews
 pub mod Gathered
+pub mod Joining
 pub mod Begun

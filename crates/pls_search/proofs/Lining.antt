@@ -148,3 +148,8 @@ module _
   ExploresInLine-by_end first (Err Full) so_far up line =
       ExploresInLine-then i first before after false true so_far (ExploresInLine-took false true up (line (λ e. cc)))
   ExploresInLine-by_end first (Err Memory) so_far up line = tt
+
+-- the same entries and the same seat at the pool
+pub StaysInLine-same : (x y z : Hands) → z.view.own ≡ y.view.own → z.account ≡ y.account → StaysInLine x y → StaysInLine x z
+StaysInLine-same x y z own account stays = λ explored lines.
+    ap tasks own ∙ (stays explored lines ∙ ap (λ (t : Account Waiting). explored ++ map task_of t.waiting) (sym account))

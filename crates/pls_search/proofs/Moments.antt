@@ -16,7 +16,7 @@ use Rattle.pls_pool.specs.declared.cause.Cause.{Cause}
 use Rattle.pls_pool.specs.declared.tally.Tally.{Tally}
 use Rattle.pls_search.specs.declared.task.Task.{Task as Waiting}
 use Rattle.pls_search.specs.Workers.{task_of, Hands, RisesBy, Did, GoesOn}
-use Rattle.pls_search.specs.Steps.{Halts}
+use Rattle.pls_search.specs.Steps.{Halts, causes_of}
 
 -- the counts at the desk stay
 pub record SameCounts (s t : Tally) : Type 0 where
@@ -175,3 +175,14 @@ module _ (reply : List Point → Call → Reply) (started : ℕ) where
 
   pub GoesOn-self : (h : Hands) → GoesOn reply started [] h h
   GoesOn-self h = GoesOn-seats [] h h refl refl refl (sym (append-nil h.tally.halts))
+
+  -- the run is halted, where it has to be
+  pub GoesOn-halts :
+      (end : Result (Unit {0}) Cause) (before after : Hands) → after.view ≡ before.view → after.account ≡ before.account → Halts end before.tally after.tally
+      → GoesOn reply started (causes_of end) before after
+  GoesOn-halts (Ok u) before after view account same =
+      GoesOn-seats [] before after view (ap (λ (a : Account Waiting). a.numbers) account) (ap (λ (t : Tally). t.share) same)
+      (ap (λ (t : Tally). t.halts) same ∙ sym (append-nil before.tally.halts))
+  GoesOn-halts (Err cause) before after view account halts =
+      GoesOn-seats (cause ∷ []) before after view (ap (λ (a : Account Waiting). a.numbers) account) (ap (λ (t : Tally). t.share) halts)
+      (ap (λ (t : Tally). t.halts) halts)

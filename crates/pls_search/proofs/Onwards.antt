@@ -1,21 +1,18 @@
 -- The work of a worker that goes on exploring, and of one that has done nothing.
-use Rattle.std.proofs.Common.{◌≡◌, ℕ, ◌+◌, ◌≤◌, Bool, false, ◌||◌, List, [], ◌∷◌, ◌++◌, length, map, refl, ap, ap₂, sym, subst, ◌∙◌, append_assoc, arith}
+use Rattle.std.proofs.Common.{◌≡◌, Bool, false, ◌||◌, List, [], ◌∷◌, ◌++◌, length, map, refl, ap, ap₂, sym, subst, ◌∙◌, append_assoc, arith}
 use Rattle.std.specs.List.{flat_map}
 use Rattle.std.proofs.lemmas.List.{append-nil, map-append, length-append}
 use Rattle.std.proofs.lemmas.List.Concat.{flat_map-append}
-use Rattle.pls_archive.specs.declared.point.Point.{Point}
-use Rattle.pls_archive.specs.declared.call.Call.{Call}
 use Rattle.pls_archive.specs.declared.call.Entry.{Entry}
-use Rattle.pls_archive.specs.Lists.{Every, total, how_many, one_if, IsAmong}
-use Rattle.pls_archive.specs.Rule.{submitted_by}
+use Rattle.pls_archive.specs.Lists.{Every, total, how_many, one_if}
 use Rattle.pls_archive.specs.History.{submissions}
-use Rattle.pls_archive.specs.Explorations.{Task, Exploration, CallerRun, IsExploration, OnlyLastIsCut, tasks, entries_of, entries_of_run, evaluated, evaluated_in, is_whole, is_cut}
+use Rattle.pls_archive.specs.Explorations.{Exploration, IsExploration, tasks, entries_of, entries_of_run, evaluated_in, is_whole, is_cut}
 use Rattle.pls_archive.proofs.Every.{Every-append, total-append}
 use Rattle.pls_archive.proofs.Histories.{submissions-append}
 use Rattle.pls_archive.proofs.SequentialCalls.{tasks-append}
 use Rattle.pls_problem.specs.declared.instance.Instance.{Instance}
 use Rattle.pls_search.specs.Neighbours.{neighbours_of, IsPointOf}
-use Rattle.pls_search.specs.Workers.{Hands, Work, IsWork, Did, IsNewWorker, task_of}
+use Rattle.pls_search.specs.Workers.{Hands, Work, IsWork, IsNewWorker, task_of}
 use Rattle.pls_search.specs.Teams.{AddsUp, HasDone}
 use Rattle.pls_search.specs.Onwards.{ExploresOn, grown}
 use Rattle.pls_search.proofs.Counting.{HasCounted-grown}

@@ -1,12 +1,11 @@
 -- How the search of a team ends: cut short, stopped or closed.
-use Rattle.std.proofs.Common.{◌≡◌, ◌⊎◌, ℕ, ◌+◌, ◌%◌, ◌^◌, ◌<◌, ◌≤◌, Bool, true, false, not, ◌||◌, List, [], ◌∷◌, length, map, refl, ap, sym, subst, ◌∙◌, arith, inl, inr}
-use Rattle.std.proofs.lemmas.List.{length-map, length-append}
+use Rattle.std.proofs.Common.{◌≡◌, ◌⊎◌, ℕ, ◌+◌, ◌%◌, ◌^◌, ◌<◌, ◌≤◌, Bool, true, false, ◌||◌, List, [], ◌∷◌, length, ap, sym, subst, ◌∙◌, arith, inl, inr}
+use Rattle.std.proofs.lemmas.List.{length-map}
 use Rattle.pls_archive.specs.declared.point.Point.{Point}
-use Rattle.pls_archive.specs.declared.call.Call.{Call}
 use Rattle.pls_archive.specs.declared.call.Call.TheVariants.{Snapshot}
 use Rattle.pls_archive.specs.declared.call.Entry.{Entry}
-use Rattle.pls_archive.specs.Lists.{Every, total, how_many, one_if, AsOften}
-use Rattle.pls_archive.specs.Explorations.{Task, Exploration, is_whole, is_cut, cuts, explorations_of, explored_tasks, tasks_of, tasks, entries_of_run}
+use Rattle.pls_archive.specs.Lists.{total, how_many, one_if, AsOften}
+use Rattle.pls_archive.specs.Explorations.{Exploration, is_whole, is_cut, cuts, explorations_of, explored_tasks, tasks_of, tasks, entries_of_run}
 use Rattle.pls_archive.specs.SearchRun.{IsClosed, IsStopped, IsCutShort, missing}
 use Rattle.pls_archive.proofs.Every.{Every-map, total-le, total-every, total-plus}
 use Rattle.pls_pool.specs.DeskRule.{HoldsAll, AllWent}

@@ -1,29 +1,23 @@
 -- How a team comes to be: the first worker submits the starts, goes on, and takes over what another did.
-use Rattle.std.proofs.Common.{◌≡◌, ◌⊎◌, ℕ, suc, ◌+◌, ◌<◌, ◌≤◌, ◌==◌, min, Bool, true, false, not, List, [], ◌∷◌, ◌++◌, length, map, take, drop, refl, ap, ap₂, sym, subst, ◌∙◌, arith}
+use Rattle.std.proofs.Common.{◌≡◌, ℕ, suc, ◌+◌, ◌<◌, ◌==◌, Bool, true, false, List, [], ◌∷◌, ◌++◌, length, map, ap, ap₂, sym, subst, ◌∙◌, arith}
 use Rattle.std.specs.List.{range_with_len, flat_map}
 use Rattle.std.proofs.lemmas.Bool.{eqb-true}
 use Rattle.std.proofs.lemmas.List.{append-nil, drop_all, length-append, length-map, map-append}
 use Rattle.pls_vectors.proofs.Ranges.{range_with_len-suc}
 use Rattle.pls_archive.specs.declared.point.Point.{Point}
-use Rattle.pls_archive.specs.declared.call.Call.{Call}
-use Rattle.pls_archive.specs.declared.call.Call.TheVariants.{Update}
 use Rattle.pls_archive.specs.declared.call.Entry.{Entry}
-use Rattle.pls_archive.specs.Lists.{Every, total}
+use Rattle.pls_archive.specs.Lists.{Every}
 use Rattle.pls_archive.specs.History.{submissions}
 use Rattle.pls_archive.specs.Explorations.{Task, Exploration, CallerRun, entries_of, entries_of_run}
 use Rattle.pls_archive.specs.SearchRun.{SubmitsFirst, OnlyExplores, missing}
 use Rattle.pls_archive.specs.Sequential.{InOrder}
-use Rattle.pls_archive.specs.View.{View, Joins as JoinsViews}
 use Rattle.pls_archive.proofs.Every.{Every-append}
-use Rattle.pls_pool.specs.Accounts.{Account, Joins as JoinsAccounts}
-use Rattle.pls_pool.specs.Tallies.{joining}
 use Rattle.pls_pool.specs.declared.tally.Tally.{Tally}
 use Rattle.pls_problem.specs.declared.instance.Instance.{Instance}
-use Rattle.pls_search.specs.declared.task.Task.{Task as Waiting}
 use Rattle.pls_search.specs.Neighbours.{IsPointOf}
 use Rattle.pls_search.specs.Workers.{task_of, Hands, Work, IsWork, LinesUp, HasCounted, work_of, StandsFor}
 use Rattle.pls_search.specs.Onwards.{ExploresOn, grown}
-use Rattle.pls_search.specs.Teams.{runs_of, AddsUp, HasDone, IsTeam, JoinsHands}
+use Rattle.pls_search.specs.Teams.{runs_of, HasDone, IsTeam, JoinsHands}
 use Rattle.pls_search.proofs.Counting.{HasCounted-grown, HasCounted-joined}
 use Rattle.pls_search.proofs.Onwards.{IsWork-grown, AddsUp-grown, own-grown}
 use Rattle.pls_search.proofs.Lining.{InOrder-append}

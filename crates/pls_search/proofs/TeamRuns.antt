@@ -1,5 +1,5 @@
 -- The callers' lists of a team, with the last question for the members, are a search run.
-use Rattle.std.proofs.Common.{◌≡◌, ℕ, ◌+◌, ◌<◌, ◌≤◌, min, Bool, List, [], ◌∷◌, ◌++◌, length, map, refl, ap, ap₂, sym, subst, ◌∙◌, arith, append_assoc}
+use Rattle.std.proofs.Common.{◌≡◌, ℕ, ◌+◌, ◌≤◌, Bool, List, [], ◌∷◌, ◌++◌, length, map, refl, ap, ap₂, sym, subst, ◌∙◌, arith, append_assoc}
 use Rattle.std.specs.List.{flat_map, range_with_len}
 use Rattle.std.proofs.lemmas.List.{append-nil}
 use Rattle.pls_archive.specs.declared.point.Point.{Point}
@@ -12,8 +12,8 @@ use Rattle.pls_archive.specs.Rule.{IsRule, accepted_by}
 use Rattle.pls_archive.specs.Serialization.{AreSequentiallyConsistent}
 use Rattle.pls_archive.specs.View.{View, IsConsistent, Extends, lists_of}
 use Rattle.pls_archive.specs.Explorations.{Task, Exploration, CallerRun, tasks, entries_of, entries_of_run, explorations_of, explored_tasks, tasks_of, evaluated, evaluated_in}
-use Rattle.pls_archive.specs.SearchRun.{IsSearchRun, Explores, OnlyExplores, missing}
-use Rattle.pls_archive.proofs.Every.{Every-map, total-le, total-same, total-every, total-every_le, total-plus}
+use Rattle.pls_archive.specs.SearchRun.{IsSearchRun, Explores, OnlyExplores}
+use Rattle.pls_archive.proofs.Every.{Every-map, total-same, total-every, total-every_le, total-plus}
 use Rattle.pls_archive.proofs.SequentialCalls.{tasks-append}
 use Rattle.pls_archive.proofs.ViewsInOrder.{holds_in_order}
 use Rattle.pls_archive.proofs.ViewsLawful.{views_are_lawful}

@@ -1,8 +1,7 @@
 -- Sums and tests over the runs of several workers.
-use Rattle.std.proofs.Common.{◌≡◌, ℕ, ◌+◌, ◌≤◌, Bool, true, false, not, List, [], ◌∷◌, ◌++◌, length, map, refl, ap, sym, ◌∙◌, arith}
-use Rattle.pls_archive.specs.declared.point.Point.{Point}
+use Rattle.std.proofs.Common.{◌≡◌, ℕ, ◌+◌, ◌≤◌, Bool, true, false, not, List, [], ◌∷◌, ◌++◌, length, map, refl, sym, ◌∙◌, arith}
 use Rattle.pls_archive.specs.Lists.{Every, total, how_many, one_if, AsOften, IsAmong}
-use Rattle.pls_archive.specs.Explorations.{Task, Exploration, is_whole, is_cut, tasks, entries_of_run, explorations_of, explored_tasks, tasks_of}
+use Rattle.pls_archive.specs.Explorations.{Task, Exploration, tasks, entries_of_run, explorations_of, explored_tasks, tasks_of}
 use Rattle.pls_archive.proofs.Every.{total-append, total-same, total-map, total-flat_map, length-flat_map}
 use Rattle.pls_search.specs.Workers.{Work}
 use Rattle.pls_search.specs.Teams.{runs_of}

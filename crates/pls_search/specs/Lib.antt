@@ -4,6 +4,7 @@ pub mod Steps
 pub mod Onwards
 pub mod Teams
 pub mod Outcomes
-pub mod Leaving
-pub mod Crews
 pub mod InLine
+pub mod Leaving
+pub mod Seats
+pub mod Crews

@@ -7,7 +7,7 @@ use Rattle.pls_archive.specs.declared.shared.Refusal.{Refusal}
 use Rattle.pls_archive.specs.declared.shared.Refusal.TheVariants as refusal
 use Rattle.pls_archive.specs.Lists.{Every, IsPrefix, one_if}
 use Rattle.pls_archive.specs.History.{submissions}
-use Rattle.pls_archive.specs.Explorations.{Task, Exploration, CallerRun, IsExploration, calls_for, entries_of, evaluated_in, is_whole}
+use Rattle.pls_archive.specs.Explorations.{Task, Exploration, IsExploration, calls_for, entries_of, evaluated_in, is_whole}
 use Rattle.pls_archive.specs.SearchRun.{SubmitsFirst}
 use Rattle.pls_pool.specs.declared.cause.Cause.{Cause}
 use Rattle.pls_pool.specs.declared.cause.Cause.TheVariants.{Spent, Full, Memory}
@@ -15,7 +15,7 @@ use Rattle.pls_pool.specs.Tallies.{halting}
 use Rattle.pls_pool.specs.declared.tally.Tally.{Tally}
 use Rattle.pls_problem.specs.declared.instance.Instance.{Instance}
 use Rattle.pls_search.specs.Neighbours.{neighbours_of, is_of, IsPointOf}
-use Rattle.pls_search.specs.Workers.{Hands, Did, StandsFor, IsNewWorker, is_explored}
+use Rattle.pls_search.specs.Workers.{Hands, Did, is_explored}
 
 -- It ended in one of three ways: not halted, halted as spent, or halted as full. For want of memory nothing is said.
 abbrev pub UnlessMemory : {A : Type 0} → Result A Cause → (Bool → Bool → Type 0) → Type 0
@@ -88,11 +88,3 @@ pub record SubmitsAll (i : Instance) (points : List Point) (before after : Hands
   pub all : (length entries == length points) ≡ not full
   pub each : Every (IsPointOf i) (submissions entries)
   pub did : Did entries [] 0 0 0 0 0 before after
-
--- So it is for the starts. What a new worker has in its hands then stands for a run that begins so.
-pub record SubmitsStarts (i : Instance) (starts : List Point) (before after : Hands) (spent full : Bool) : Type 0 where
-  pub unspent : spent ≡ false
-  pub begins :
-      IsNewWorker before
-      → (r : CallerRun) × SubmitsFirst starts r.starts × (r.explorations ≡ []) × ((length r.starts == length starts) ≡ not full)
-      × StandsFor i false false after r

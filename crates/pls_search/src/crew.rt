@@ -1,8 +1,11 @@
 //! The workers that have not begun.
-ghost use Rattle.std.specs.Prelude.{◌≡◌, ◌+◌, ◌≤◌, ◌++◌, ◌∷◌, [], MatchOption, IfSome, OnSome, vec_len};
+ghost use Rattle.std.specs.Prelude.{◌≡◌, ◌+◌, ◌≤◌, OnSome, IfSome, MatchOption, vec_len};
+ghost use Rattle.pls_search.specs.Crews.{IsNewCrew};
+ghost use Rattle.pls_search.specs.Seats.{IsNewAt};
 
+use crate::gate::Gate;
 use crate::task::Task;
-use crate::worker::Worker;
+use crate::worker::{Search, Worker};
 use pls_archive::Shared;
 use pls_pool::{DeskSeat, Pool};
 
@@ -14,32 +17,34 @@ pub(crate) struct Crew<A: Shared, P: Pool<Task>> {
     pub desk_seats: Vec<DeskSeat>,
 }
 
-impl<A: Shared, P: Pool<Task>> Crew<A, P> {
-    /// The last of them.
-    pub(crate) fn next(&mut self) -> Option<Worker<A, P>>
+impl<'a, A: Shared, P: Pool<Task>, G: Gate> Search<'a, A, P, G> {
+    /// The first worker of all.
+    pub(crate) fn first_of(&self, crew: &mut Crew<A, P>) -> Worker<A, P>
+        requires some { 1 ≤ vec_len crew.old.passes }
+        requires crew { IsNewCrew A.Shared P.Pool self.now 0 crew.old }
+        ensures count { vec_len crew.new.passes + 1 ≡ vec_len crew.old.passes }
+        ensures crew { IsNewCrew A.Shared P.Pool self.now 1 crew.new }
+        ensures worker { IsNewAt A.Shared P.Pool self.now 0 result }
+    {
+        let pass = crew.passes.remove(0);
+        let pool_seat = crew.pool_seats.remove(0);
+        let desk_seat = crew.desk_seats.remove(0);
+        Worker::new(0, pass, pool_seat, desk_seat)
+    }
+
+    /// The last worker of a crew.
+    pub(crate) fn next_of(&self, crew: &mut Crew<A, P>) -> Option<Worker<A, P>>
     where
         P::Seat: Drop,
-        requires few { vec_len self.old.passes ≤ 16 }
-        requires even { (vec_len self.old.pool_seats ≡ vec_len self.old.passes) × (vec_len self.old.desk_seats ≡ vec_len self.old.passes) }
-        ensures count { MatchOption result (vec_len self.old.passes ≡ 0) (λ _. vec_len self.new.passes + 1 ≡ vec_len self.old.passes) }
-        ensures even { OnSome result ((vec_len self.new.pool_seats ≡ vec_len self.new.passes) × (vec_len self.new.desk_seats ≡ vec_len self.new.passes)) }
-        ensures passes { IfSome result (λ w. self.old.passes.items ≡ self.new.passes.items ++ w.pass ∷ []) }
-        ensures pool_seats { IfSome result (λ w. self.old.pool_seats.items ≡ self.new.pool_seats.items ++ w.pool_seat ∷ []) }
-        ensures uncounted { IfSome result (λ w. (w.explored ≡ 0) × (w.evaluated ≡ 0)) }
-        ensures desk_seats { IfSome result (λ w. self.old.desk_seats.items ≡ self.new.desk_seats.items ++ w.desk_seat ∷ []) }
+        requires crew { IsNewCrew A.Shared P.Pool self.now 1 crew.old }
+        ensures count { MatchOption result (vec_len crew.old.passes ≡ 0) (λ _. vec_len crew.new.passes + 1 ≡ vec_len crew.old.passes) }
+        ensures crew { OnSome result (IsNewCrew A.Shared P.Pool self.now 1 crew.new) }
+        ensures worker { IfSome result (IsNewAt A.Shared P.Pool self.now (vec_len crew.old.passes)) }
     {
-        let number = self.passes.len();
-        let pass = self.passes.pop()?;
-        let pool_seat = self.pool_seats.pop()?;
-        let desk_seat = self.desk_seats.pop()?;
-        Some(Worker {
-            number: number as u32,
-            begun: 0,
-            explored: 0,
-            evaluated: 0,
-            pass,
-            pool_seat,
-            desk_seat,
-        })
+        let number = crew.passes.len();
+        let pass = crew.passes.pop()?;
+        let pool_seat = crew.pool_seats.pop()?;
+        let desk_seat = crew.desk_seats.pop()?;
+        Some(Worker::new(number as u32, pass, pool_seat, desk_seat))
     }
 }

@@ -1,16 +1,11 @@
 //! Workers that have not begun are joined, since the archive had no room for a start.
-ghost use Rattle.std.specs.Prelude.{◌≡◌, ◌≢◌, ◌↔◌, ◌+◌, ◌≤◌, List, [], ◌∷◌, IfOk, IfErr, length, vec_len};
-ghost use Rattle.std.specs.List.{range_with_len};
-ghost use Rattle.pls_archive.specs.View.{IsConsistent, new_view};
+ghost use Rattle.std.specs.Prelude.{◌≡◌, ◌≢◌, ◌↔◌, ◌+◌, ◌≤◌, List, length, vec_len};
 ghost use Rattle.pls_archive.specs.declared.point.Point.{Point};
-ghost use Rattle.pls_pool.specs.Accounts.{IsNew};
-ghost use Rattle.pls_pool.specs.DeskSeats.{IsDeskSeatOf, IsNewDeskSeat, tally_of};
 ghost use Rattle.pls_pool.specs.declared.cause.Cause.TheVariants.{Memory};
-ghost use Rattle.pls_search.specs.Crews.{AreSeated};
-ghost use Rattle.pls_search.specs.Leaving.{OfTeam, Lacks};
-ghost use Rattle.pls_search.specs.Outcomes.{Finds};
 ghost use Rattle.pls_search.specs.Teams.{IsSmall};
-ghost use Rattle.pls_search.specs.Workers.{hands};
+ghost use Rattle.pls_search.specs.Leaving.{OfTeam, Lacks};
+ghost use Rattle.pls_search.specs.Crews.{IsNewCrew, Holds, HasFound, GivesBack};
+ghost use Rattle.pls_search.specs.Seats.{hands_of, HasSeatEach};
 
 use crate::crew::Crew;
 use crate::end::End;
@@ -28,26 +23,14 @@ impl<'a, A: Shared, P: Pool<Task>, G: Gate> Search<'a, A, P, G> {
     fn gather(&self, first: Worker<A, P>, mut crew: Crew<A, P>) -> Worker<A, P>
     where
         P::Seat: Drop,
-        requires pass { A.belongs self.now.archive.now first.pass × A.at_rest first.pass }
-        requires seats { P.belongs self.now.pool.now first.pool_seat × IsDeskSeatOf self.now.desk.now first.desk_seat }
-        requires alone { ((P.account first.pool_seat).numbers ≡ 0 ∷ []) × ((tally_of first.desk_seat).share ≡ 1) }
-        requires consistent { IsConsistent (A.Law.reply (A.number self.now.archive.now)) (A.passes self.now.archive.now) (A.view first.pass) }
-        requires few { vec_len crew.passes + 1 ≤ P.seats self.now.pool.now × vec_len crew.passes ≤ 16 }
-        requires even { (vec_len crew.pool_seats ≡ vec_len crew.passes) × (vec_len crew.desk_seats ≡ vec_len crew.passes) }
-        requires new_passes { AreSeated (λ k p. A.belongs self.now.archive.now p × A.at_rest p × (A.view p ≡ new_view (k + 1)) × ¬ A.shows_full p) crew.passes.items }
-        requires new_seats { AreSeated (λ k s. P.belongs self.now.pool.now s × IsNew (k + 1) (P.account s)) crew.pool_seats.items }
-        requires new_desk_seats { AreSeated (λ k s. IsNewDeskSeat self.now.desk.now s) crew.desk_seats.items }
-        ensures pass { A.belongs self.now.archive.now result.pass × A.at_rest result.pass }
-        ensures seats { P.belongs self.now.pool.now result.pool_seat × IsDeskSeatOf self.now.desk.now result.desk_seat }
-        ensures all { ((P.account result.pool_seat).numbers ≡ range_with_len 0 (vec_len crew.passes + 1))
-            × ((tally_of result.desk_seat).share ≡ vec_len crew.passes + 1) }
-        ensures consistent { IsConsistent (A.Law.reply (A.number self.now.archive.now)) (A.passes self.now.archive.now) (A.view result.pass) }
+        requires holds { Holds A.Shared A.Law.Rule P.Pool self.now 1 first }
+        requires crew { IsNewCrew A.Shared P.Pool self.now 1 crew }
+        requires few { vec_len crew.passes + 1 ≤ P.seats self.now.pool.now }
+        ensures holds { Holds A.Shared A.Law.Rule P.Pool self.now (vec_len crew.passes + 1) result }
         ensures full { A.shows_full result.pass ↔ A.shows_full first.pass }
         ensures room { length (A.view first.pass).observed ≤ length (A.view result.pass).observed }
-        ensures lacks { (starts : List Point) → OfTeam self.now.instance.now starts 1 (Lacks starts)
-            (hands (A.view first.pass) (P.account first.pool_seat) (tally_of first.desk_seat) first.explored first.evaluated)
-            → OfTeam self.now.instance.now starts (vec_len crew.passes + 1) (Lacks starts)
-            (hands (A.view result.pass) (P.account result.pool_seat) (tally_of result.desk_seat) result.explored result.evaluated) }
+        ensures lacks { (starts : List Point) → OfTeam self.now.instance.now starts 1 (Lacks starts) (hands_of A.Shared P.Pool first)
+            → OfTeam self.now.instance.now starts (vec_len crew.passes + 1) (Lacks starts) (hands_of A.Shared P.Pool result) }
     {
         let Some(other) = self.next_of(&mut crew) else {
             return first;
@@ -68,27 +51,14 @@ impl<'a, A: Shared, P: Pool<Task>, G: Gate> Search<'a, A, P, G> {
     ) -> Result<Outcome<A::Pass>, NoMemory<A::Pass>>
     where
         P::Seat: Drop,
-        requires pass { A.belongs self.now.archive.now first.pass × A.at_rest first.pass }
-        requires seats { P.belongs self.now.pool.now first.pool_seat × IsDeskSeatOf self.now.desk.now first.desk_seat }
-        requires alone { ((P.account first.pool_seat).numbers ≡ 0 ∷ []) × ((tally_of first.desk_seat).share ≡ 1) }
-        requires consistent { IsConsistent (A.Law.reply (A.number self.now.archive.now)) (A.passes self.now.archive.now) (A.view first.pass) }
-        requires full { cause ≢ Memory → A.shows_full first.pass }
-        requires room { cause ≢ Memory → A.safe self.now.archive.now ≤ length (A.view first.pass).observed }
-        requires few { (P.seats self.now.pool.now ≡ vec_len crew.passes + 1) × (self.now.desk.now.seats ≡ vec_len crew.passes + 1)
-            × (A.passes self.now.archive.now ≡ vec_len crew.passes + 1) × vec_len crew.passes ≤ 16 }
-        requires even { (vec_len crew.pool_seats ≡ vec_len crew.passes) × (vec_len crew.desk_seats ≡ vec_len crew.passes) }
-        requires new_passes { AreSeated (λ k p. A.belongs self.now.archive.now p × A.at_rest p × (A.view p ≡ new_view (k + 1)) × ¬ A.shows_full p) crew.passes.items }
-        requires new_seats { AreSeated (λ k s. P.belongs self.now.pool.now s × IsNew (k + 1) (P.account s)) crew.pool_seats.items }
-        requires new_desk_seats { AreSeated (λ k s. IsNewDeskSeat self.now.desk.now s) crew.desk_seats.items }
+        requires holds { Holds A.Shared A.Law.Rule P.Pool self.now 1 first }
+        requires crew { IsNewCrew A.Shared P.Pool self.now 1 crew }
+        requires all { (A.passes self.now.archive.now ≡ vec_len crew.passes + 1) × HasSeatEach A.Shared P.Pool self.now }
+        requires full { cause ≢ Memory → A.shows_full first.pass × (A.safe self.now.archive.now ≤ length (A.view first.pass).observed) }
         ensures found { (starts : List Point) → IsSmall starts self.now.desk.now.moves
-            → (cause ≢ Memory → OfTeam self.now.instance.now starts 1 (Lacks starts)
-            (hands (A.view first.pass) (P.account first.pool_seat) (tally_of first.desk_seat) first.explored first.evaluated))
-            → IfOk result (λ o. Finds (A.Law.reply (A.number self.now.archive.now)) self.now.instance.now starts self.now.desk.now.moves (A.passes self.now.archive.now) (A.view o.pass) o.end o.front o.explored o.evaluated o.accepted) }
-        ensures pass { IfOk result (λ o. A.belongs self.now.archive.now o.pass × A.at_rest o.pass) }
-        ensures full { IfOk result (λ o. A.shows_full o.pass ↔ (o.end ≡ End.Full)) }
-        ensures room { IfOk result (λ o. o.end ≡ End.Full → A.safe self.now.archive.now ≤ length (A.view o.pass).observed) }
-        ensures no_memory { IfErr result (λ n. A.belongs self.now.archive.now n.pass × A.at_rest n.pass
-            × IsConsistent (A.Law.reply (A.number self.now.archive.now)) (A.passes self.now.archive.now) (A.view n.pass)) }
+            → (cause ≢ Memory → OfTeam self.now.instance.now starts 1 (Lacks starts) (hands_of A.Shared P.Pool first))
+            → HasFound A.Shared A.Law.Rule P.Pool self.now starts result }
+        ensures back { GivesBack A.Shared A.Law.Rule P.Pool self.now result }
     {
         match cause {
             Cause::Memory => Err(NoMemory { pass: first.pass }),

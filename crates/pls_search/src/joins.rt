@@ -1,10 +1,8 @@
 //! One worker takes over what another did.
-ghost use Rattle.std.specs.Prelude.{◌≡◌, ◌↔◌, ◌⊎◌, ◌+◌, ◌≤◌, length};
-ghost use Rattle.pls_archive.specs.View.{IsConsistent};
+ghost use Rattle.std.specs.Prelude.{◌↔◌, ◌⊎◌, ◌+◌, ◌≤◌, length};
 ghost use Rattle.pls_pool.specs.Accounts.{Apart};
-ghost use Rattle.pls_pool.specs.DeskSeats.{IsDeskSeatOf, tally_of};
-ghost use Rattle.pls_search.specs.Workers.{hands};
 ghost use Rattle.pls_search.specs.Teams.{JoinsHands};
+ghost use Rattle.pls_search.specs.Seats.{hands_of, IsSeated, HasLists};
 
 use crate::gate::Gate;
 use crate::task::Task;
@@ -15,18 +13,12 @@ use pls_pool::Pool;
 impl<'a, A: Shared, P: Pool<Task>, G: Gate> Search<'a, A, P, G> {
     /// The worker takes over the pass and the seats of another.
     pub(crate) fn join(&self, worker: &mut Worker<A, P>, other: Worker<A, P>)
-        requires pass { A.belongs self.now.archive.now worker.old.pass × A.at_rest worker.old.pass }
-        requires seats { P.belongs self.now.pool.now worker.old.pool_seat × IsDeskSeatOf self.now.desk.now worker.old.desk_seat }
-        requires other_pass { A.belongs self.now.archive.now other.pass × A.at_rest other.pass }
-        requires other_seats { P.belongs self.now.pool.now other.pool_seat × IsDeskSeatOf self.now.desk.now other.desk_seat }
+        requires seated { IsSeated A.Shared P.Pool self.now worker.old × IsSeated A.Shared P.Pool self.now other }
         requires apart { Apart (P.account worker.old.pool_seat).numbers (P.account other.pool_seat).numbers }
         requires few { length (P.account worker.old.pool_seat).numbers + length (P.account other.pool_seat).numbers ≤ P.seats self.now.pool.now }
-        ensures pass { A.belongs self.now.archive.now worker.new.pass × A.at_rest worker.new.pass }
-        ensures seats { P.belongs self.now.pool.now worker.new.pool_seat × IsDeskSeatOf self.now.desk.now worker.new.desk_seat }
-        ensures joins { JoinsHands (hands (A.view worker.old.pass) (P.account worker.old.pool_seat) (tally_of worker.old.desk_seat) worker.old.explored worker.old.evaluated)
-            (hands (A.view other.pass) (P.account other.pool_seat) (tally_of other.desk_seat) other.explored other.evaluated)
-            (hands (A.view worker.new.pass) (P.account worker.new.pool_seat) (tally_of worker.new.desk_seat) worker.new.explored worker.new.evaluated) }
-        ensures consistent { IsConsistent (A.Law.reply (A.number self.now.archive.now)) (A.passes self.now.archive.now) (A.view worker.new.pass) }
+        ensures seated { IsSeated A.Shared P.Pool self.now worker.new }
+        ensures joins { JoinsHands (hands_of A.Shared P.Pool worker.old) (hands_of A.Shared P.Pool other) (hands_of A.Shared P.Pool worker.new) }
+        ensures lists { HasLists A.Shared A.Law.Rule P.Pool self.now worker.new.pass }
         ensures full { A.shows_full worker.new.pass ↔ (A.shows_full worker.old.pass ⊎ A.shows_full other.pass) }
     {
         let Worker {

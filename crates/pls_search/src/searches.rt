@@ -1,9 +1,9 @@
 //! The search.
-ghost use Rattle.std.specs.Prelude.{◌≡◌, ◌↔◌, ◌+◌, ◌<◌, ◌≤◌, All, true, map, length, vec_len, IfOk, IfErr};
+ghost use Rattle.std.specs.Prelude.{◌≡◌, ◌↔◌, ◌+◌, ◌≤◌, length, vec_len, ◌<◌, All, true, map, IfOk, IfErr};
 ghost use Rattle.pls_archive.specs.View.{IsConsistent, new_view};
 ghost use Rattle.pls_pool.specs.Accounts.{IsNew};
 ghost use Rattle.pls_pool.specs.DeskSeats.{IsNewDeskSeat};
-ghost use Rattle.pls_problem.specs.Instance.{feasible, objectives};
+ghost use Rattle.pls_problem.specs.Instance.{objectives, feasible};
 ghost use Rattle.pls_search.specs.Crews.{AreSeated};
 ghost use Rattle.pls_search.specs.Neighbours.{point_of};
 ghost use Rattle.pls_search.specs.Outcomes.{Finds};
@@ -13,7 +13,7 @@ use crate::end::End;
 use crate::gate::Gate;
 use crate::outcome::{NoMemory, Outcome};
 use crate::task::Task;
-use crate::worker::{Search, Worker};
+use crate::worker::Search;
 use pls_archive::Shared;
 use pls_pool::{Cause, Desk, DeskSeat, Pool};
 use pls_problem::Instance;
@@ -30,11 +30,11 @@ pub fn search<'x, A: Shared, P: Pool<Task> + Sync, G: Gate, R: Threads + Wait + 
     instance: &'x Instance,
     starts: &[Sol],
     archive: &'x A,
-    mut passes: Vec<A::Pass>,
+    passes: Vec<A::Pass>,
     pool: &'x P,
-    mut seats: Vec<P::Seat>,
+    seats: Vec<P::Seat>,
     desk: &'x Desk,
-    mut desk_seats: Vec<DeskSeat>,
+    desk_seats: Vec<DeskSeat>,
     gate: &'x G,
 ) -> Result<Outcome<A::Pass>, NoMemory<A::Pass>>
 where
@@ -60,21 +60,13 @@ where
         desk,
         gate,
     };
-    let mut first = Worker {
-        number: 0,
-        begun: 0,
-        explored: 0,
-        evaluated: 0,
-        pass: passes.remove(0),
-        pool_seat: seats.remove(0),
-        desk_seat: desk_seats.remove(0),
-    };
-    let crew = Crew {
+    let run = &run;
+    let mut crew = Crew {
         passes,
         pool_seats: seats,
         desk_seats,
     };
-    let run = &run;
+    let mut first = run.first_of(&mut crew);
     match run.submit_starts(rt, &mut first, starts) {
         Ok(()) => {
             let left = run.spread(rt, first, crew);

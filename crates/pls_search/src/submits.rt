@@ -1,13 +1,11 @@
 //! Submitting a point.
-ghost use Rattle.std.specs.Prelude.{◌≡◌, ◌≢◌, ◌↔◌, ◌⊎◌, ◌+◌, ◌<◌, [], length, Err, MatchResult, OnErr};
-ghost use Rattle.pls_archive.specs.History.{accepted};
+ghost use Rattle.std.specs.Prelude.{◌≡◌, [], length, MatchResult};
 ghost use Rattle.pls_pool.specs.Accounts.{Puts};
-ghost use Rattle.pls_pool.specs.Tallies.{opening, halting};
 ghost use Rattle.pls_pool.specs.DeskSeats.{IsDeskSeatOf, tally_of};
-ghost use Rattle.pls_pool.specs.declared.cause.Cause.TheVariants.{Full, Memory};
-ghost use Rattle.pls_problem.specs.Instance.{objectives};
-ghost use Rattle.pls_search.specs.Workers.{hands, StaysInLine, GoesOn};
+ghost use Rattle.pls_pool.specs.declared.cause.Cause.TheVariants.{Memory};
 ghost use Rattle.pls_search.specs.Steps.{UnlessMemory, Submits, cause_for};
+ghost use Rattle.pls_pool.specs.Tallies.{opening};
+ghost use Rattle.pls_search.specs.Seats.{hands_of, IsSeated, StaysInOrder, Keeps};
 
 use crate::gate::Gate;
 use crate::task::Task;
@@ -51,23 +49,12 @@ impl<'a, A: Shared, P: Pool<Task>, G: Gate> Search<'a, A, P, G> {
         worker: &mut Worker<A, P>,
         point: &Point,
     ) -> Result<(), Cause>
-        requires pass { A.belongs self.now.archive.now worker.old.pass × A.at_rest worker.old.pass }
-        requires seats { P.belongs self.now.pool.now worker.old.pool_seat × IsDeskSeatOf self.now.desk.now worker.old.desk_seat }
+        requires seated { IsSeated A.Shared P.Pool self.now worker.old }
         requires parts { length point.now.value ≡ A.objectives self.now.archive.now }
-        ensures pass { A.belongs self.now.archive.now worker.new.pass × A.at_rest worker.new.pass }
-        ensures seats { P.belongs self.now.pool.now worker.new.pool_seat × IsDeskSeatOf self.now.desk.now worker.new.desk_seat }
-        ensures submits { UnlessMemory result (Submits point.now
-            (hands (A.view worker.old.pass) (P.account worker.old.pool_seat) (tally_of worker.old.desk_seat) worker.old.explored worker.old.evaluated)
-            (hands (A.view worker.new.pass) (P.account worker.new.pool_seat) (tally_of worker.new.desk_seat) worker.new.explored worker.new.evaluated)) }
-        ensures goes_on { GoesOn (A.Law.reply (A.number self.now.archive.now)) (A.passes self.now.archive.now) []
-            (hands (A.view worker.old.pass) (P.account worker.old.pool_seat) (tally_of worker.old.desk_seat) worker.old.explored worker.old.evaluated)
-            (hands (A.view worker.new.pass) (P.account worker.new.pool_seat) (tally_of worker.new.desk_seat) worker.new.explored worker.new.evaluated) }
+        ensures submits { UnlessMemory result (Submits point.now (hands_of A.Shared P.Pool worker.old) (hands_of A.Shared P.Pool worker.new)) }
+        ensures keeps { Keeps A.Shared A.Law.Rule P.Pool self.now [] result worker.old worker.new }
         ensures drawn { ((tally_of worker.new.desk_seat).draws ≡ (tally_of worker.old.desk_seat).draws) × ((tally_of worker.new.desk_seat).goes ≡ (tally_of worker.old.desk_seat).goes) }
-        ensures full { A.shows_full worker.new.pass ↔ (A.shows_full worker.old.pass ⊎ (result ≡ Err Full)) }
-        ensures room { result ≡ Err Full → A.safe self.now.archive.now < length (accepted (A.view worker.new.pass).observed) + 1 }
-        ensures in_line { result ≢ Err Memory → P.seats self.now.pool.now ≡ 1 → StaysInLine
-            (hands (A.view worker.old.pass) (P.account worker.old.pool_seat) (tally_of worker.old.desk_seat) worker.old.explored worker.old.evaluated)
-            (hands (A.view worker.new.pass) (P.account worker.new.pool_seat) (tally_of worker.new.desk_seat) worker.new.explored worker.new.evaluated) }
+        ensures in_order { StaysInOrder A.Shared P.Pool self.now result worker.old worker.new }
     {
         match self.archive.update(rt, &mut worker.pass, *point) {
             Ok((taken, stamp)) => match taken {

@@ -1,4 +1,5 @@
 //! What a worker has of its own, and what all workers of a search share.
+ghost use Rattle.std.specs.Prelude.{◌≡◌};
 
 use crate::gate::Gate;
 use crate::task::Task;
@@ -18,6 +19,30 @@ pub(crate) struct Worker<A: Shared, P: Pool<Task>> {
     pub pass: A::Pass,
     pub pool_seat: P::Seat,
     pub desk_seat: DeskSeat,
+}
+
+impl<A: Shared, P: Pool<Task>> Worker<A, P> {
+    /// A worker that has done nothing.
+    pub(crate) fn new(
+        number: u32,
+        pass: A::Pass,
+        pool_seat: P::Seat,
+        desk_seat: DeskSeat,
+    ) -> Worker<A, P>
+        ensures pass { result.pass ≡ pass }
+        ensures seats { (result.pool_seat ≡ pool_seat) × (result.desk_seat ≡ desk_seat) }
+        ensures counts { (result.explored ≡ 0) × (result.evaluated ≡ 0) }
+    {
+        Worker {
+            number,
+            begun: 0,
+            explored: 0,
+            evaluated: 0,
+            pass,
+            pool_seat,
+            desk_seat,
+        }
+    }
 }
 
 /// What all workers of a search share.

@@ -1,14 +1,14 @@
 //! The loop of a worker.
-ghost use Rattle.std.specs.Prelude.{◌≡◌, ◌≢◌, ◌↔◌, ◌⊎◌, ◌+◌, ◌<◌, true, [], length, Err, OnOk};
-ghost use Rattle.pls_archive.specs.History.{accepted};
+ghost use Rattle.std.specs.Prelude.{◌≡◌, ◌≢◌, OnOk, Err};
 ghost use Rattle.pls_pool.specs.DeskSeats.{IsDeskSeatOf, tally_of};
-ghost use Rattle.pls_pool.specs.declared.cause.Cause.TheVariants.{Spent, Full, Memory};
+ghost use Rattle.pls_pool.specs.declared.cause.Cause.TheVariants.{Spent};
 ghost use Rattle.pls_problem.specs.Instance.{objectives};
+ghost use Rattle.pls_search.specs.Workers.{task_of, HasLeft};
 ghost use Rattle.pls_search.specs.Neighbours.{is_of};
-ghost use Rattle.pls_search.specs.Workers.{task_of, hands, StaysInLine, GoesOn, HasLeft};
+ghost use Rattle.pls_search.specs.Steps.{UnlessMemory, causes_of, TakesUp, Halts};
 ghost use Rattle.pls_search.specs.InLine.{ExploresInLine};
 ghost use Rattle.pls_search.specs.Onwards.{ExploresOn};
-ghost use Rattle.pls_search.specs.Steps.{UnlessMemory, causes_of, TakesUp, Halts};
+ghost use Rattle.pls_search.specs.Seats.{IsFresh, hands_of, IsSeated, StaysInOrder, Keeps};
 
 use crate::gate::Gate;
 use crate::task::Task;
@@ -51,24 +51,13 @@ impl<'a, A: Shared, P: Pool<Task>, G: Gate> Search<'a, A, P, G> {
 
     // Explores a task that was taken, where it is one of this instance, and halts the run where that was cut.
     fn take_up<R: Wait>(&self, rt: &R, worker: &mut Worker<A, P>, task: &Task) -> Result<(), Cause>
-        requires pass { A.belongs self.now.archive.now worker.old.pass × A.at_rest worker.old.pass }
-        requires seats { P.belongs self.now.pool.now worker.old.pool_seat × IsDeskSeatOf self.now.desk.now worker.old.desk_seat }
+        requires seated { IsSeated A.Shared P.Pool self.now worker.old }
         requires objectives { A.objectives self.now.archive.now ≡ objectives self.now.instance.now }
-        requires fresh { (tally_of worker.old.desk_seat).draws ≡ (tally_of worker.old.desk_seat).goes }
-        ensures pass { A.belongs self.now.archive.now worker.new.pass × A.at_rest worker.new.pass }
-        ensures seats { P.belongs self.now.pool.now worker.new.pool_seat × IsDeskSeatOf self.now.desk.now worker.new.desk_seat }
-        ensures takes_up { UnlessMemory result (TakesUp self.now.instance.now (task_of task.now)
-            (hands (A.view worker.old.pass) (P.account worker.old.pool_seat) (tally_of worker.old.desk_seat) worker.old.explored worker.old.evaluated)
-            (hands (A.view worker.new.pass) (P.account worker.new.pool_seat) (tally_of worker.new.desk_seat) worker.new.explored worker.new.evaluated)) }
-        ensures goes_on { GoesOn (A.Law.reply (A.number self.now.archive.now)) (A.passes self.now.archive.now) (causes_of result)
-            (hands (A.view worker.old.pass) (P.account worker.old.pool_seat) (tally_of worker.old.desk_seat) worker.old.explored worker.old.evaluated)
-            (hands (A.view worker.new.pass) (P.account worker.new.pool_seat) (tally_of worker.new.desk_seat) worker.new.explored worker.new.evaluated) }
-        ensures fresh { result ≢ Err Spent → (tally_of worker.new.desk_seat).draws ≡ (tally_of worker.new.desk_seat).goes }
-        ensures full { A.shows_full worker.new.pass ↔ (A.shows_full worker.old.pass ⊎ (result ≡ Err Full)) }
-        ensures room { result ≡ Err Full → A.safe self.now.archive.now < length (accepted (A.view worker.new.pass).observed) + 1 }
-        ensures in_line { result ≢ Err Memory → P.seats self.now.pool.now ≡ 1 → StaysInLine
-            (hands (A.view worker.old.pass) (P.account worker.old.pool_seat) (tally_of worker.old.desk_seat) worker.old.explored worker.old.evaluated)
-            (hands (A.view worker.new.pass) (P.account worker.new.pool_seat) (tally_of worker.new.desk_seat) worker.new.explored worker.new.evaluated) }
+        requires fresh { IsFresh worker.old.desk_seat }
+        ensures takes_up { UnlessMemory result (TakesUp self.now.instance.now (task_of task.now) (hands_of A.Shared P.Pool worker.old) (hands_of A.Shared P.Pool worker.new)) }
+        ensures keeps { Keeps A.Shared A.Law.Rule P.Pool self.now (causes_of result) result worker.old worker.new }
+        ensures fresh { result ≢ Err Spent → IsFresh worker.new.desk_seat }
+        ensures in_order { StaysInOrder A.Shared P.Pool self.now result worker.old worker.new }
     {
         if !self.is_of(task) {
             return Ok(());
@@ -81,24 +70,13 @@ impl<'a, A: Shared, P: Pool<Task>, G: Gate> Search<'a, A, P, G> {
 
     /// Explores tasks of the pool until the run is halted, or no task is open. An error tells why this worker halted it.
     pub(crate) fn work<R: Wait>(&self, rt: &R, worker: &mut Worker<A, P>) -> Result<(), Cause>
-        requires pass { A.belongs self.now.archive.now worker.old.pass × A.at_rest worker.old.pass }
-        requires seats { P.belongs self.now.pool.now worker.old.pool_seat × IsDeskSeatOf self.now.desk.now worker.old.desk_seat }
+        requires seated { IsSeated A.Shared P.Pool self.now worker.old }
         requires objectives { A.objectives self.now.archive.now ≡ objectives self.now.instance.now }
-        requires fresh { (tally_of worker.old.desk_seat).draws ≡ (tally_of worker.old.desk_seat).goes }
-        ensures pass { A.belongs self.now.archive.now worker.new.pass × A.at_rest worker.new.pass }
-        ensures seats { P.belongs self.now.pool.now worker.new.pool_seat × IsDeskSeatOf self.now.desk.now worker.new.desk_seat }
-        ensures explores { UnlessMemory result (λ spent full. ExploresOn self.now.instance.now spent full
-            (hands (A.view worker.old.pass) (P.account worker.old.pool_seat) (tally_of worker.old.desk_seat) worker.old.explored worker.old.evaluated)
-            (hands (A.view worker.new.pass) (P.account worker.new.pool_seat) (tally_of worker.new.desk_seat) worker.new.explored worker.new.evaluated)) }
-        ensures goes_on { GoesOn (A.Law.reply (A.number self.now.archive.now)) (A.passes self.now.archive.now) (causes_of result)
-            (hands (A.view worker.old.pass) (P.account worker.old.pool_seat) (tally_of worker.old.desk_seat) worker.old.explored worker.old.evaluated)
-            (hands (A.view worker.new.pass) (P.account worker.new.pool_seat) (tally_of worker.new.desk_seat) worker.new.explored worker.new.evaluated) }
+        requires fresh { IsFresh worker.old.desk_seat }
+        ensures explores { UnlessMemory result (λ spent full. ExploresOn self.now.instance.now spent full (hands_of A.Shared P.Pool worker.old) (hands_of A.Shared P.Pool worker.new)) }
+        ensures keeps { Keeps A.Shared A.Law.Rule P.Pool self.now (causes_of result) result worker.old worker.new }
         ensures left { OnOk result (HasLeft (tally_of worker.new.desk_seat)) }
-        ensures full { A.shows_full worker.new.pass ↔ (A.shows_full worker.old.pass ⊎ (result ≡ Err Full)) }
-        ensures in_line { P.seats self.now.pool.now ≡ 1 → UnlessMemory result (ExploresInLine self.now.instance.now
-            (hands (A.view worker.old.pass) (P.account worker.old.pool_seat) (tally_of worker.old.desk_seat) worker.old.explored worker.old.evaluated)
-            (hands (A.view worker.new.pass) (P.account worker.new.pool_seat) (tally_of worker.new.desk_seat) worker.new.explored worker.new.evaluated)) }
-        ensures room { result ≡ Err Full → A.safe self.now.archive.now < length (accepted (A.view worker.new.pass).observed) + 1 }
+        ensures in_line { P.seats self.now.pool.now ≡ 1 → UnlessMemory result (ExploresInLine self.now.instance.now (hands_of A.Shared P.Pool worker.old) (hands_of A.Shared P.Pool worker.new)) }
     {
         for _ in rt.forever() {
             if self.desk.halted(&mut worker.desk_seat) {

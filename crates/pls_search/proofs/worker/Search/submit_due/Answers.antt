@@ -6,6 +6,7 @@ use Rattle.pls_archive.specs.Archives.{yes_or_no}
 use Rattle.pls_archive.specs.Explorations.{is_no, skips}
 use Rattle.pls_pool.specs.DeskSeats.{tally_of}
 use Rattle.pls_search.specs.Workers.{task_of, hands, Did}
+use Rattle.pls_search.specs.Seats.{hands_of}
 use Rattle.pls_search.specs.Steps.{UnlessMemory, ExploresTask}
 use Rattle.pls_search.proofs.Moments.{SameCounts-self, Did-entries, Did-counted}
 use Rattle.pls_search.proofs.Neighbourhoods.{ExploresTask-skipped, ExploresTask-due, ExploresTask-cut}
@@ -31,7 +32,7 @@ keeps-early false n m early = not_late (nat_le n m) (λ (is : nat_le n m ≡ tru
 
 pub returns-then-task-stamp-clause-explores : goal.returns-then-task-stamp-clause-explores
 returns-then-task-stamp-clause-explores g c =
-    let before = hands (g.A.Shared.view c.args.worker.now.pass) (g.P.Pool.account c.args.worker.now.pool_seat) (tally_of c.args.worker.now.desk_seat) c.args.worker.now.explored c.args.worker.now.evaluated in
+    let before = hands_of g.A.Shared g.P.Pool c.args.worker.now in
     let after = hands (g.A.Shared.view c.member-is_member.new.pass) (g.P.Pool.account c.args.worker.now.pool_seat) (tally_of c.args.worker.now.desk_seat) c.args.worker.now.explored c.args.worker.now.evaluated in
     let t = task_of c.args.task.now in
     let answer = c.member-is_member.result in
@@ -41,9 +42,9 @@ returns-then-task-stamp-clause-explores g c =
 
 pub returns-clause-explores : goal.returns-clause-explores
 returns-clause-explores g c =
-    let before = hands (g.A.Shared.view c.args.worker.now.pass) (g.P.Pool.account c.args.worker.now.pool_seat) (tally_of c.args.worker.now.desk_seat) c.args.worker.now.explored c.args.worker.now.evaluated in
+    let before = hands_of g.A.Shared g.P.Pool c.args.worker.now in
     let between = hands (g.A.Shared.view c.member-is_member.new.pass) (g.P.Pool.account c.args.worker.now.pool_seat) (tally_of c.args.worker.now.desk_seat) c.args.worker.now.explored c.args.worker.now.evaluated in
-    let after = hands (g.A.Shared.view c.submit_neighbours.new.worker.pass) (g.P.Pool.account c.submit_neighbours.new.worker.pool_seat) (tally_of c.submit_neighbours.new.worker.desk_seat) c.submit_neighbours.new.worker.explored c.submit_neighbours.new.worker.evaluated in
+    let after = hands_of g.A.Shared g.P.Pool c.submit_neighbours.new.worker in
     let t = task_of c.args.task.now in
     let answer = c.member-is_member.result in
     let asked : Entry = record { caller = before.view.number; stamp = answer.1; call = Member t.point.value; reply = yes_or_no answer.0 } in
@@ -57,9 +58,9 @@ returns-clause-explores g c =
 
 pub returns-in_err-submit_neighbours-clause-explores : goal.returns-in_err-submit_neighbours-clause-explores
 returns-in_err-submit_neighbours-clause-explores g c =
-    let before = hands (g.A.Shared.view c.args.worker.now.pass) (g.P.Pool.account c.args.worker.now.pool_seat) (tally_of c.args.worker.now.desk_seat) c.args.worker.now.explored c.args.worker.now.evaluated in
+    let before = hands_of g.A.Shared g.P.Pool c.args.worker.now in
     let between = hands (g.A.Shared.view c.member-is_member.new.pass) (g.P.Pool.account c.args.worker.now.pool_seat) (tally_of c.args.worker.now.desk_seat) c.args.worker.now.explored c.args.worker.now.evaluated in
-    let after = hands (g.A.Shared.view c.submit_neighbours.new.worker.pass) (g.P.Pool.account c.submit_neighbours.new.worker.pool_seat) (tally_of c.submit_neighbours.new.worker.desk_seat) c.submit_neighbours.new.worker.explored c.submit_neighbours.new.worker.evaluated in
+    let after = hands_of g.A.Shared g.P.Pool c.submit_neighbours.new.worker in
     let t = task_of c.args.task.now in
     let answer = c.member-is_member.result in
     let asked : Entry = record { caller = before.view.number; stamp = answer.1; call = Member t.point.value; reply = yes_or_no answer.0 } in

@@ -1,24 +1,18 @@
-use Rattle.std.proofs.Common.{◌≡◌, ◌↔◌, [], length}
-use Rattle.pls_pool.specs.DeskSeats.{IsDeskSeatOf, tally_of}
+use Rattle.std.proofs.Common.{[], length}
 use Rattle.pls_problem.specs.Walk.{IsWalkOf, left}
-use Rattle.pls_search.specs.Workers.{hands, StaysInLine, GoesOn}
+use Rattle.pls_search.specs.Seats.{IsFresh, hands_of, StaysInOrder, Keeps}
+use Rattle.pls_search.proofs.Keeping.{fine}
 use Rattle.pls_search.proofs.Neighbourhoods.{Underway}
 use Rattle.pls_search.proofs.worker.Search.submit_neighbours.Given as goal
 
 abbrev pub invariant-loop-value : goal.invariant-loop-value
-invariant-loop-value g l =
-    let before = hands (g.A.Shared.view l.fn.worker.pass) (g.P.Pool.account l.fn.worker.pool_seat) (tally_of l.fn.worker.desk_seat) l.fn.worker.explored l.fn.worker.evaluated in
-    let now = hands (g.A.Shared.view l.worker.pass) (g.P.Pool.account l.worker.pool_seat) (tally_of l.worker.desk_seat) l.worker.explored l.worker.evaluated in
-    record {
-      walk : IsWalkOf l.self.instance.now l.walk;
-      pass : g.A.Shared.belongs l.self.archive.now l.worker.pass × g.A.Shared.at_rest l.worker.pass;
-      seats : g.P.Pool.belongs l.self.pool.now l.worker.pool_seat × IsDeskSeatOf l.self.desk.now l.worker.desk_seat;
-      underway : Underway l.self.instance.now l.of before now (left l.self.instance.now l.walk);
-      goes_on : GoesOn (g.A.Law.Rule.reply (g.A.Shared.number l.self.archive.now)) (g.A.Shared.passes l.self.archive.now) [] before now;
-      fresh : (tally_of l.worker.desk_seat).draws ≡ (tally_of l.worker.desk_seat).goes;
-      in_line : g.P.Pool.seats l.self.pool.now ≡ 1 → StaysInLine before now;
-      full : g.A.Shared.shows_full l.worker.pass ↔ g.A.Shared.shows_full l.fn.worker.pass;
-    }
+invariant-loop-value g l = record {
+  walk : IsWalkOf l.self.instance.now l.walk;
+  underway : Underway l.self.instance.now l.of (hands_of g.A.Shared g.P.Pool l.fn.worker) (hands_of g.A.Shared g.P.Pool l.worker) (left l.self.instance.now l.walk);
+  keeps : Keeps g.A.Shared g.A.Law.Rule g.P.Pool l.self [] fine l.fn.worker l.worker;
+  fresh : IsFresh l.worker.desk_seat;
+  in_order : StaysInOrder g.A.Shared g.P.Pool l.self fine l.fn.worker l.worker;
+}
 
 abbrev pub decreases-loop-value : goal.decreases-loop-value
 decreases-loop-value g l = length (left l.self.instance.now l.walk)
