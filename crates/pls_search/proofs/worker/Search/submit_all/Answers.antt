@@ -6,7 +6,7 @@ use Rattle.pls_archive.specs.declared.point.Point.{Point}
 use Rattle.pls_search.specs.Neighbours.{point_of, IsPointOf}
 use Rattle.pls_search.specs.Steps.{UnlessMemory, SubmitsAll}
 use Rattle.pls_search.specs.Seats.{hands_of, StaysInOrder, Keeps}
-use Rattle.pls_search.proofs.Keeping.{StaysInOrder-self, StaysInOrder-then, Keeps-self, Keeps-then}
+use Rattle.pls_search.proofs.Keeping.{fine, StaysInOrder-self, StaysInOrder-then, Keeps-self, Keeps-then}
 use Rattle.pls_search.proofs.Beginning.{SoFar, SoFar-none, SoFar-more, SubmitsAll-whole, SubmitsAll-cut}
 use Rattle.pls_search.proofs.worker.Search.submit_all.Goals as goal
 
@@ -38,8 +38,8 @@ loop-sol-preserved g c =
       so_far =
           subst (λ (ps : List Point). SoFar i ps before after) points
           (SoFar-more i (map (point_of i) (take k sols)) p before now after so_far.so_far is c.in_ok-submit.ensures.submits);
-      keeps = Keeps-then g.A.Shared g.A.Law.Rule g.P.Pool c.args.self.now c.args.worker.now c.loop-sol.worker c.submit.new.worker so_far.keeps c.in_ok-submit.ensures.keeps;
-      in_order = StaysInOrder-then g.A.Shared g.P.Pool c.args.self.now c.args.worker.now c.loop-sol.worker c.submit.new.worker so_far.in_order c.in_ok-submit.ensures.in_order;
+      keeps = Keeps-then g.A.Shared g.A.Law.Rule g.P.Pool c.args.self.now {causes = []} {end = fine} c.args.worker.now c.loop-sol.worker c.submit.new.worker so_far.keeps c.in_ok-submit.ensures.keeps;
+      in_order = StaysInOrder-then g.A.Shared g.P.Pool c.args.self.now {end = fine} c.args.worker.now c.loop-sol.worker c.submit.new.worker so_far.in_order c.in_ok-submit.ensures.in_order;
     }
 
 pub returns-in_err-submit : goal.returns-in_err-submit
@@ -64,10 +64,10 @@ returns-in_err-submit g c =
           (SubmitsAll-cut i all k before now so_far p after end _ (omega (arith, long)) c.in_err-submit.was c.submit.ensures.submits);
       keeps =
           subst (λ e. Keeps g.A.Shared g.A.Law.Rule g.P.Pool s [] e c.args.worker.now last) same
-          (Keeps-then g.A.Shared g.A.Law.Rule g.P.Pool s c.args.worker.now c.loop-sol.worker last c.loop-sol.invariant.keeps c.submit.ensures.keeps);
+          (Keeps-then g.A.Shared g.A.Law.Rule g.P.Pool s {causes = []} {end = c.submit.result} c.args.worker.now c.loop-sol.worker last c.loop-sol.invariant.keeps c.submit.ensures.keeps);
       in_order =
           subst (λ e. StaysInOrder g.A.Shared g.P.Pool s e c.args.worker.now last) same
-          (StaysInOrder-then g.A.Shared g.P.Pool s c.args.worker.now c.loop-sol.worker last c.loop-sol.invariant.in_order c.submit.ensures.in_order);
+          (StaysInOrder-then g.A.Shared g.P.Pool s {end = c.submit.result} c.args.worker.now c.loop-sol.worker last c.loop-sol.invariant.in_order c.submit.ensures.in_order);
     }
 
 pub returns-clause-submits : goal.returns-clause-submits

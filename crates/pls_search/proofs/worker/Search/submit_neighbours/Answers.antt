@@ -4,7 +4,7 @@ use Rattle.pls_problem.specs.Walk.{current}
 use Rattle.pls_search.specs.Neighbours.{IsPointOf}
 use Rattle.pls_search.specs.Steps.{UnlessMemory, SubmitsNeighbour, SubmitsNeighbours}
 use Rattle.pls_search.specs.Seats.{hands_of, StaysInOrder, Keeps}
-use Rattle.pls_search.proofs.Keeping.{StaysInOrder-self, StaysInOrder-then, Keeps-self, Keeps-then}
+use Rattle.pls_search.proofs.Keeping.{fine, StaysInOrder-self, StaysInOrder-then, Keeps-self, Keeps-then}
 use Rattle.pls_search.proofs.Neighbourhoods.{Underway-start, Underway-more, SubmitsNeighbours-cut}
 use Rattle.pls_search.proofs.worker.Search.submit_neighbours.Goals as goal
 
@@ -32,9 +32,9 @@ loop-value-preserved g c =
     record {
       walk = c.in-Some.ensures.made;
       underway = Underway-more i c.args.of.now before now after _ _ v s so_far.underway c.in-Some.ensures.step is step;
-      keeps = Keeps-then g.A.Shared g.A.Law.Rule g.P.Pool c.args.self.now c.args.worker.now c.loop-value.worker c.submit_neighbour.new.worker so_far.keeps c.in_ok-submit_neighbour.ensures.keeps;
+      keeps = Keeps-then g.A.Shared g.A.Law.Rule g.P.Pool c.args.self.now {causes = []} {end = fine} c.args.worker.now c.loop-value.worker c.submit_neighbour.new.worker so_far.keeps c.in_ok-submit_neighbour.ensures.keeps;
       fresh = search rules;
-      in_order = StaysInOrder-then g.A.Shared g.P.Pool c.args.self.now c.args.worker.now c.loop-value.worker c.submit_neighbour.new.worker so_far.in_order c.in_ok-submit_neighbour.ensures.in_order;
+      in_order = StaysInOrder-then g.A.Shared g.P.Pool c.args.self.now {end = fine} c.args.worker.now c.loop-value.worker c.submit_neighbour.new.worker so_far.in_order c.in_ok-submit_neighbour.ensures.in_order;
     }
 
 pub returns-in_err-submit_neighbour : goal.returns-in_err-submit_neighbour
@@ -58,9 +58,9 @@ returns-in_err-submit_neighbour g c =
           (SubmitsNeighbours-cut i c.args.of.now before now after _ _ v s so_far.underway c.in-Some.ensures.step end step _ c.in_err-submit_neighbour.was);
       keeps =
           subst (λ e. Keeps g.A.Shared g.A.Law.Rule g.P.Pool here [] e c.args.worker.now last) same
-          (Keeps-then g.A.Shared g.A.Law.Rule g.P.Pool here c.args.worker.now c.loop-value.worker last so_far.keeps c.submit_neighbour.ensures.keeps);
+          (Keeps-then g.A.Shared g.A.Law.Rule g.P.Pool here {causes = []} {end = end} c.args.worker.now c.loop-value.worker last so_far.keeps c.submit_neighbour.ensures.keeps);
       fresh = search rules;
       in_order =
           subst (λ e. StaysInOrder g.A.Shared g.P.Pool here e c.args.worker.now last) same
-          (StaysInOrder-then g.A.Shared g.P.Pool here c.args.worker.now c.loop-value.worker last so_far.in_order c.submit_neighbour.ensures.in_order);
+          (StaysInOrder-then g.A.Shared g.P.Pool here {end = end} c.args.worker.now c.loop-value.worker last so_far.in_order c.submit_neighbour.ensures.in_order);
     }

@@ -6,7 +6,7 @@ use Rattle.pls_search.specs.Seats.{hands_of}
 use Rattle.pls_search.specs.Onwards.{ExploresOn}
 use Rattle.pls_search.specs.Steps.{UnlessMemory}
 use Rattle.pls_search.proofs.Moments.{SameCounts-self, SameCounts-found, Did-none, Did-nothing, Did-after, Did-took, GoesOn-seats, GoesOn-then}
-use Rattle.pls_search.proofs.Keeping.{Keeps-seats, Keeps-self, Keeps-then}
+use Rattle.pls_search.proofs.Keeping.{fine, Keeps-seats, Keeps-self, Keeps-then}
 use Rattle.pls_search.proofs.Turns.{ExploresOn-taken, ExploresOn-took, ExploresOn-then, ExploresOn-by_end}
 use Rattle.pls_search.specs.InLine.{ExploresInLine}
 use Rattle.pls_search.proofs.Lining.{ExploresInLine-idle, ExploresInLine-then, ExploresInLine-took, ExploresInLine-by_end}
@@ -41,8 +41,8 @@ loop-preserved-in-Continue-1 g c =
     record {
       explores = ExploresOn-then i false false first now after so_far.explores (ExploresOn-took i (task_of task) now between after took false false turn.takes_up);
       keeps =
-          Keeps-then g.A.Shared g.A.Law.Rule g.P.Pool c.args.self.now c.args.worker.now c.loop.worker c.take_up.new.worker so_far.keeps
-          (Keeps-then g.A.Shared g.A.Law.Rule g.P.Pool c.args.self.now c.loop.worker mid c.take_up.new.worker kept turn.keeps);
+          Keeps-then g.A.Shared g.A.Law.Rule g.P.Pool c.args.self.now {causes = []} {end = fine} c.args.worker.now c.loop.worker c.take_up.new.worker so_far.keeps
+          (Keeps-then g.A.Shared g.A.Law.Rule g.P.Pool c.args.self.now {causes = []} {end = fine} c.loop.worker mid c.take_up.new.worker kept turn.keeps);
       in_line = λ one.
           ExploresInLine-then i first now after false false (so_far.in_line one)
           (ExploresInLine-took i task now between after refl took (takes.waits one) false false turn.takes_up (turn.in_order (λ e. cc) one));
@@ -122,7 +122,7 @@ loop-preserved g c =
     (GoesOn-then _ _ {first = now} {between = between} {last = after} refl goes goes_then) in
     record {
       explores = ExploresOn-then i false false first now after so_far.explores (ExploresOn-taken i now after [] did);
-      keeps = Keeps-then g.A.Shared g.A.Law.Rule g.P.Pool c.args.self.now c.args.worker.now c.loop.worker last so_far.keeps kept;
+      keeps = Keeps-then g.A.Shared g.A.Law.Rule g.P.Pool c.args.self.now {causes = []} {end = fine} c.args.worker.now c.loop.worker last so_far.keeps kept;
       fresh = search rules;
       in_line = λ one.
           ExploresInLine-then i first now after false false (so_far.in_line one)
