@@ -176,6 +176,37 @@ fn is_full_while_a_version_is_read(rt: HostRuntime) -> Result<(), AllocError> {
     Ok(())
 }
 
+// One pass reads version 0 while the other replaces the row three times; once it has left, what a tidy frees, and the rows that
+// are taken next.
+fn take_what_is_freed(
+    rows: &Rows<OneRow>,
+    a: &mut Pass<OneRow>,
+    b: &mut Pass<OneRow>,
+) -> Option<(u32, [u32; 4])>
+    requires { IsAtRest rows.now a.old × IsAtRest rows.now b.old }
+{
+    open(rows, a);
+    replace(rows, b);
+    replace(rows, b);
+    replace(rows, b);
+    rows.unpin(a, &Nothing);
+    let freed = rows.tidy(b);
+    Some((
+        freed,
+        [rows.take(b)?, rows.take(b)?, rows.take(b)?, rows.take(b)?],
+    ))
+}
+
+#[test]
+fn takes_first_what_was_freed_last(rt: HostRuntime) -> Result<(), AllocError> {
+    let (rows, mut a, mut b) = start_two(rt.alloc())?;
+    assert!(&rt;
+        take_what_is_freed(&rows, &mut a, &mut b) == Some((3, [33, 32, 0, 35])),
+        "the rows 0, 32 and 33 are free once nobody reads version 0, and row 34 is current"
+    );
+    Ok(())
+}
+
 // The version that a pass remembers at a place, which is one that it has seen.
 fn remembered_version(pass: &Pass<OneRow>, place: usize) -> Option<u64>
     requires { place < MEMORY_PLACES }

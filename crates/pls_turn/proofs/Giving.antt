@@ -9,6 +9,8 @@ use Rattle.pls_archive.specs.Rule.{is_accepting}
 use Rattle.pls_archive.specs.History.{submissions}
 use Rattle.pls_archive.specs.View.{View}
 use Rattle.pls_archive.specs.SharedCalls.{Answers}
+use Rattle.pls_archive.specs.declared.rule.Rule as rule
+use Rattle.pls_archive.specs.declared.single.Single as single
 use Rattle.pls_archive.proofs.KeepingLists.{IsObserved-more}
 use Rattle.pls_archive.proofs.Keeping.{AgreesWith-other, AgreesWith-accepting, AgreesWith-unaccepted, answers-accepting, answers-unaccepted}
 use Rattle.pls_turn.specs.declared.seen.Turn.{Turn}
@@ -21,11 +23,11 @@ use Rattle.pls_turn.proofs.Lists.{whole_prefix}
 abbrev pub after_by : Bool → Entry → View → View
 after_by b e v = record v { observed = if b then v.observed ++ e ∷ [] else v.observed; own = v.own ++ e ∷ [] }
 
-module _ {S : Type 0} (front : ℕ → List Point → List Point) (reply : ℕ → List Point → Call → Reply) (number objectives : S → ℕ) (points : S → List Point)
-    (key : Terms S) (t : Turn S) (turn : IsInTurn front reply number objectives points key t)
-    (call : Call) (answer : Reply) (stamp : ℕ) (right : answer ≡ reply (number key.single.value) (submissions t.view.observed) call) (few : stamp < 2 ^ 40) where
+module _ {S L : Type 0} (R : rule.Ghosts L) (One : single.Ghosts S L)
+    (key : Terms S) (t : Turn S) (turn : IsInTurn R One key t)
+    (call : Call) (answer : Reply) (stamp : ℕ) (right : answer ≡ R.reply (One.number key.single.value) (submissions t.view.observed) call) (few : stamp < 2 ^ 40) where
   abbrev pub law : List Point → Call → Reply
-  law = reply (number key.single.value)
+  law = R.reply (One.number key.single.value)
 
   abbrev pub log : List Entry
   log = t.view.observed
@@ -35,9 +37,9 @@ module _ {S : Type 0} (front : ℕ → List Point → List Point) (reply : ℕ �
 
   abbrev pub Both : Bool → Type 0
   Both b =
-      ((a : S) → IsArchiveAt front reply number objectives points key (after_by b (entry_of t.view call answer stamp) t.view).observed a
-      → MayGive front reply number objectives points key t (after_by b (entry_of t.view call answer stamp) t.view) a)
-      × Answers (reply (number key.single.value)) key.passes t.view call answer stamp (after_by b (entry_of t.view call answer stamp) t.view)
+      ((a : S) → IsArchiveAt R One key (after_by b (entry_of t.view call answer stamp) t.view).observed a
+      → MayGive R One key t (after_by b (entry_of t.view call answer stamp) t.view) a)
+      × Answers (R.reply (One.number key.single.value)) key.passes t.view call answer stamp (after_by b (entry_of t.view call answer stamp) t.view)
       × (stamp ≡ length (after_by b (entry_of t.view call answer stamp) t.view).observed)
 
   accepting : is_accepting call answer ≡ true → stamp ≡ length t.view.observed + 1 → Both true

@@ -2,13 +2,12 @@
 use Rattle.std.proofs.Common.{◌≡◌, ◌≢◌, ℕ, ◌+◌, ◌<◌, ◌==◌, ⊎_elim, Bool, true, false, Some, List, [], ◌∷◌, ◌++◌, drop, length, set, refl, ap, sym, subst, ◌∙◌, arith}
 use Rattle.atomic_table.specs.Table.{State}
 use Rattle.atomic_table.proofs.Lists.{at_set, at_snoc}
-use Rattle.pls_archive.specs.declared.point.Point.{Point}
-use Rattle.pls_archive.specs.declared.call.Call.{Call}
-use Rattle.pls_archive.specs.declared.call.Reply.{Reply}
 use Rattle.pls_archive.specs.declared.call.Entry.{Entry}
 use Rattle.pls_archive.specs.Lists.{Every, IsPrefix, one_if}
 use Rattle.pls_archive.proofs.KeepingLists.{IsListWithin}
 use Rattle.pls_archive.specs.View.{lists_of}
+use Rattle.pls_archive.specs.declared.rule.Rule as rule
+use Rattle.pls_archive.specs.declared.single.Single as single
 use Rattle.pls_archive.proofs.Every.{Every-append, total-append}
 use Rattle.pls_archive.proofs.Keeping.{AgreesWith-joins}
 use Rattle.pls_turn.specs.declared.seen.Turn.{Turn}
@@ -42,10 +41,10 @@ seen_with : (seen : List Entry) (lists : List (ℕ × List Entry)) → 0 < lengt
 seen_with seen [] some_list = absurd (omega arith)
 seen_with seen (list ∷ lists) some_list = refl
 
-module _ {S : Type 0} (front : ℕ → List Point → List Point) (reply : ℕ → List Point → Call → Reply) (number objectives : S → ℕ) (points : S → List Point) where
-  module _ (key : Terms S) (s : State S (Turn S)) (log : List Entry) (out : Bool) (kept : Kept front reply number objectives points key s log out)
+module _ {S L : Type 0} (R : rule.Ghosts L) (One : single.Ghosts S L) where
+  module _ (key : Terms S) (s : State S (Turn S)) (log : List Entry) (out : Bool) (kept : Kept R One key s log out)
       (i : ℕ) (t : Turn S) (at : get_elem? s.views i ≡ some t) (mine : t.terms ≡ Some key) (rests : t.holds ≡ false) where
-    sound : IsSound front reply number objectives points key log t
+    sound : IsSound R One key log t
     sound = kept.each i t at
 
     live : is_live t ≡ true
@@ -56,7 +55,7 @@ module _ {S : Type 0} (front : ℕ → List Point → List Point) (reply : ℕ �
 
     -- the other lists are not all gone
     module _ (some_list : 0 < length t.view.others) where
-      left_sound : IsSound front reply number objectives points key log (giving t)
+      left_sound : IsSound R One key log (giving t)
       left_sound =
           let agrees = sound.agrees live in
           record {
@@ -66,7 +65,7 @@ module _ {S : Type 0} (front : ℕ → List Point → List Point) (reply : ℕ �
             turn = never_held;
           }
 
-      right_sound : IsSound front reply number objectives points key log (given t)
+      right_sound : IsSound R One key log (given t)
       right_sound =
           let agrees = sound.agrees live in
           let seen_is = seen_with t.view.observed t.view.others some_list in
@@ -75,14 +74,14 @@ module _ {S : Type 0} (front : ℕ → List Point → List Point) (reply : ℕ �
             agrees = λ _. record {
               observed = subst (λ (l : List Entry). IsPrefix l log) (sym seen_is) agrees.observed;
               lists =
-                  subst (λ (l : List Entry). Every (λ (list : ℕ × List Entry). IsListWithin (reply (number key.single.value)) log (length l) list.0 list.1) (lists_of (given t).view))
+                  subst (λ (l : List Entry). Every (λ (list : ℕ × List Entry). IsListWithin (R.reply (One.number key.single.value)) log (length l) list.0 list.1) (lists_of (given t).view))
                   (sym seen_is) (with_first _ t.view.observed t.view.others some_list agrees.lists.1);
             };
             begun = λ _. with_first _ t.view.observed t.view.others some_list (sound.begun live).1;
             turn = never_held;
           }
 
-      pub splits : Kept front reply number objectives points key (record { words = s.words; homes = s.homes; views = set s.views i (giving t) ++ given t ∷ [] }) log out
+      pub splits : Kept R One key (record { words = s.words; homes = s.homes; views = set s.views i (giving t) ++ given t ∷ [] }) log out
       splits = record {
         word = kept.word;
         few = kept.few;
@@ -100,14 +99,14 @@ module _ {S : Type 0} (front : ℕ → List Point → List Point) (reply : ℕ �
         each = λ j u there.
             ⊎_elim
             (λ old.
-            ⊎_elim (λ me. subst (IsSound front reply number objectives points key log) me.1 left_sound) (λ other. kept.each j u other.1)
+            ⊎_elim (λ me. subst (IsSound R One key log) me.1 left_sound) (λ other. kept.each j u other.1)
             (at_set s.views i j (giving t) u old))
-            (λ last. subst (IsSound front reply number objectives points key log) last right_sound)
+            (λ last. subst (IsSound R One key log) last right_sound)
             (at_snoc (set s.views i (giving t)) (given t) u j there);
       }
 
     pub joins : (j : ℕ) (u : Turn S) → get_elem? (set s.views i (joining t u)) j ≡ some u → j ≢ i → u.terms ≡ Some key → u.holds ≡ false
-        → Kept front reply number objectives points key (record { words = s.words; homes = s.homes; views = set (set s.views i (joining t u)) j spent }) log out
+        → Kept R One key (record { words = s.words; homes = s.homes; views = set (set s.views i (joining t u)) j spent }) log out
     joins j u at_j apart theirs their_rest = record {
       word = kept.word;
       few = kept.few;
@@ -125,9 +124,9 @@ module _ {S : Type 0} (front : ℕ → List Point → List Point) (reply : ℕ �
           let same = total_joined (times_held c) s.views i j t u (joining t u) spent at at_j both refl in
           let most = kept.once c in omega arith;
       each = λ k w there.
-          ⊎_elim (λ gone. subst (IsSound front reply number objectives points key log) gone.1 gone_sound)
+          ⊎_elim (λ gone. subst (IsSound R One key log) gone.1 gone_sound)
           (λ old.
-          ⊎_elim (λ me. subst (IsSound front reply number objectives points key log) me.1 both_sound) (λ other. kept.each k w other.1)
+          ⊎_elim (λ me. subst (IsSound R One key log) me.1 both_sound) (λ other. kept.each k w other.1)
           (at_set s.views i k (joining t u) w old.1))
           (at_set (set s.views i (joining t u)) j k spent w there);
     }
@@ -138,14 +137,14 @@ module _ {S : Type 0} (front : ℕ → List Point → List Point) (reply : ℕ �
         there_first : get_elem? s.views j ≡ some u
         there_first = ⊎_elim (λ me. absurd (apart me.0)) (λ other. other.1) (at_set s.views i j (joining t u) u at_j)
 
-        their_sound : IsSound front reply number objectives points key log u
+        their_sound : IsSound R One key log u
         their_sound = kept.each j u there_first
 
-        both_sound : IsSound front reply number objectives points key log (joining t u)
+        both_sound : IsSound R One key log (joining t u)
         both_sound = record {
           terms_are = λ _. mine;
           agrees = λ _.
-              AgreesWith-joins (reply (number key.single.value)) log t.view u.view (joined_view t.view u.view) (sound.agrees live) (their_sound.agrees live_there)
+              AgreesWith-joins (R.reply (One.number key.single.value)) log t.view u.view (joined_view t.view u.view) (sound.agrees live) (their_sound.agrees live_there)
               (record { number = refl; observed = refl; own = refl; others = refl });
           begun = λ _.
               let all = sound.begun live in
@@ -153,7 +152,7 @@ module _ {S : Type 0} (front : ℕ → List Point → List Point) (reply : ℕ �
           turn = never_held;
         }
 
-        gone_sound : IsSound front reply number objectives points key log spent
+        gone_sound : IsSound R One key log spent
         gone_sound = record {
           terms_are = λ living. absurd (false_true living);
           agrees = λ living. absurd (false_true living);

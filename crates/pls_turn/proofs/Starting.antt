@@ -8,6 +8,8 @@ use Rattle.pls_archive.specs.declared.call.Entry.{Entry}
 use Rattle.pls_archive.specs.Lists.{Every, In, one_if, how_many}
 use Rattle.pls_archive.specs.Rule.{IsRule}
 use Rattle.pls_archive.specs.View.{new_view}
+use Rattle.pls_archive.specs.declared.rule.Rule as rule
+use Rattle.pls_archive.specs.declared.single.Single as single
 use Rattle.pls_archive.proofs.KeepingLists.{IsListWithin, no_entries}
 use Rattle.pls_turn.specs.declared.seen.Turn.{Turn}
 use Rattle.pls_turn.specs.declared.terms.Terms.{Terms}
@@ -57,10 +59,10 @@ no_members : (xs : List Point) → ((p : Point) → In p xs → ⊥) → xs ≡ 
 no_members [] none = refl
 no_members (x ∷ xs) none = absurd (none x (inl refl))
 
-module _ {S : Type 0} (front : ℕ → List Point → List Point) (reply : ℕ → List Point → Call → Reply) (number objectives : S → ℕ) (points : S → List Point)
-    (laws : (n : ℕ) → IsRule (front n) (reply n)) where
-  pub opens : (key : Terms S) (single : S) → key.single.value ≡ single → points single ≡ [] → 1 ≤ key.passes
-      → Holds front reply number objectives points key (opening (0 ∷ []) (single ∷ []) (first_turn key))
+module _ {S L : Type 0} (R : rule.Ghosts L) (One : single.Ghosts S L)
+    (laws : (n : ℕ) → IsRule (R.front n) (R.reply n)) where
+  pub opens : (key : Terms S) (single : S) → key.single.value ≡ single → One.points single ≡ [] → 1 ≤ key.passes
+      → Holds R One key (opening (0 ∷ []) (single ∷ []) (first_turn key))
   opens key single same empty some_passes = (
     [],
     false,
@@ -73,8 +75,8 @@ module _ {S : Type 0} (front : ℕ → List Point → List Point) (reply : ℕ �
         refl,
         record {
           members = λ test. ap (λ xs. how_many test xs) (none ∙ sym empty);
-          number_is = ap number (sym same);
-          objectives_is = ap objectives (sym same);
+          number_is = ap One.number (sym same);
+          objectives_is = ap One.objectives (sym same);
         },
       );
       holders = refl;
@@ -83,8 +85,8 @@ module _ {S : Type 0} (front : ℕ → List Point → List Point) (reply : ℕ �
     },
   )
     where
-      none : front (number key.single.value) [] ≡ []
-      none = no_members (front (number key.single.value) []) (λ p here. (laws (number key.single.value)).members_submitted [] p here)
+      none : R.front (One.number key.single.value) [] ≡ []
+      none = no_members (R.front (One.number key.single.value) []) (λ p here. (laws (One.number key.single.value)).members_submitted [] p here)
 
       by_caller : (c : ℕ) (b : Bool) → (0 == c) ≡ b → one_if (0 == c) + times_in c (no_calls 1 (key.passes - 1)) + 0 ≤ 1
       by_caller c true is =
@@ -93,12 +95,12 @@ module _ {S : Type 0} (front : ℕ → List Point → List Point) (reply : ℕ �
           let rest = (no_calls_once c 1 (key.passes - 1)).1 (omega arith) in omega arith
       by_caller c false is = let one = ap one_if is in let rest = (no_calls_once c 1 (key.passes - 1)).0 in omega arith
 
-      first : IsSound front reply number objectives points key [] (first_turn key)
+      first : IsSound R One key [] (first_turn key)
       first = record {
         terms_are = λ _. refl;
         agrees = λ _. record {
           observed = ([], refl);
-          lists = (no_entries (reply (number key.single.value)) [] 0 [] 0 refl, no_calls_within (reply (number key.single.value)) 1 (key.passes - 1));
+          lists = (no_entries (R.reply (One.number key.single.value)) [] 0 [] 0 refl, no_calls_within (R.reply (One.number key.single.value)) 1 (key.passes - 1));
         };
         begun = λ _. (omega arith, no_calls_below key.passes 1 (key.passes - 1) (omega arith));
         turn = λ held. absurd (false_true held);
@@ -107,6 +109,6 @@ module _ {S : Type 0} (front : ℕ → List Point → List Point) (reply : ℕ �
           false_true : false ≡ true → ⊥
           false_true e = cc
 
-      alone : (i : ℕ) (t : Turn S) → get_elem? (first_turn key ∷ []) i ≡ some t → IsSound front reply number objectives points key [] t
-      alone zero t there = subst (IsSound front reply number objectives points key []) (some-injective (first_turn key) t there) first
+      alone : (i : ℕ) (t : Turn S) → get_elem? (first_turn key ∷ []) i ≡ some t → IsSound R One key [] t
+      alone zero t there = subst (IsSound R One key []) (some-injective (first_turn key) t there) first
       alone (suc i) t there = absurd (some-ne-none t (sym there))

@@ -13,6 +13,8 @@ use Rattle.pls_archive.specs.History.{submissions}
 use Rattle.pls_archive.specs.Archives.{reply_of}
 use Rattle.pls_archive.specs.View.{View, ObservesWith}
 use Rattle.pls_archive.specs.SharedCalls.{Answers, IsRefused}
+use Rattle.pls_archive.specs.declared.rule.Rule as rule
+use Rattle.pls_archive.specs.declared.single.Single as single
 use Rattle.pls_archive.proofs.Keeping.{AgreesWith-consistent}
 use Rattle.pls_turn.specs.declared.seen.Turn.{Turn}
 use Rattle.pls_turn.specs.declared.turned.Turned.{Turned}
@@ -20,19 +22,19 @@ use Rattle.pls_turn.specs.Passes.{terms_of, entry_of}
 use Rattle.pls_turn.specs.TurnSeats.{HasTurn, HasArchive, IsDue, observed_after}
 use Rattle.pls_turn.proofs.Lists.{prefix_trans}
 
-module _ {S L : Type 0} (front : ℕ → List Point → List Point) (reply : ℕ → List Point → Call → Reply) (number objectives : S → ℕ) (points : S → List Point) (t : Turned S L) where
+module _ {S L : Type 0} (R : rule.Ghosts L) (One : single.Ghosts S L) (t : Turned S L) where
   abbrev pub law : List Point → Call → Reply
-  law = reply (number (terms_of t).single.value)
+  law = R.reply (One.number (terms_of t).single.value)
 
   -- after the archive took the point, this answer is due
   pub submitted :
       (before after : Seat S (Turn S)) (p : Point) (taken : Taken) (stamp : ℕ) → after.me.0 ≡ before.me.0
       → reply_of taken ≡ law (submissions before.me.0.view.observed) (Update p)
       → ((e : Entry) → e.call ≡ Update p → e.reply ≡ reply_of taken
-      → HasArchive front reply number objectives points t (observed_after e before.me.0.view.observed) after)
+      → HasArchive R One t (observed_after e before.me.0.view.observed) after)
       → stamp ≡ length before.me.0.view.observed + one_if (is_accepting (Update p) (reply_of taken))
       → length before.me.0.view.observed + one_if (is_accepting (Update p) (law (submissions before.me.0.view.observed) (Update p))) < 2 ^ 40
-      → IsDue front reply number objectives points t after (Update p) (reply_of taken) stamp
+      → IsDue R One t after (Update p) (reply_of taken) stamp
   submitted before after p taken stamp same right archive stamped room =
       let observed = ap (λ (u : Turn S). u.view.observed) (sym same) in
       record {
@@ -43,10 +45,10 @@ module _ {S L : Type 0} (front : ℕ → List Point → List Point) (reply : ℕ
             omega arith;
         archive =
             let e = entry_of after.me.0.view (Update p) (reply_of taken) stamp in
-            subst (λ l. HasArchive front reply number objectives points t (observed_after e l) after) observed (archive e refl refl);
+            subst (λ l. HasArchive R One t (observed_after e l) after) observed (archive e refl refl);
       }
 
-  module _ (before : View) (seat : Seat S (Turn S)) (turn : HasTurn front reply number objectives points t before seat) where
+  module _ (before : View) (seat : Seat S (Turn S)) (turn : HasTurn R One t before seat) where
     observes_sooner : (b : Bool) (e : Entry) (after : List Entry) → ObservesWith law b seat.me.0.view.observed e after → ObservesWith law b before.observed e after
     observes_sooner true e after (earlier, is, last, right) =
         (earlier, prefix_trans before.observed seat.me.0.view.observed earlier turn.further is, last, right)

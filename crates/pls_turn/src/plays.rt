@@ -13,7 +13,7 @@ impl<S: Single> TableRule<S, Turn<S>, Terms<S>> for Turning {
     ghost use Rattle.pls_turn.specs.Turns.{first_turn};
     ghost use Rattle.pls_turn.specs.TurnRule.{Holds};
 
-    ghost holds = { Holds S.Law.front S.Law.reply S.number S.objectives S.points };
+    ghost holds = { Holds S.Law.Rule S.Single };
 
     ghost first = { first_turn };
 }
@@ -48,7 +48,7 @@ pub struct TakeTurn<S> {
 impl<S: Single> Play<S, Turn<S>> for TakeTurn<S> {
     ghost use Rattle.pls_turn.specs.TurnRule.{Takes};
 
-    ghost then = { λ st m found n. Takes S.Law.front S.Law.reply S.number S.objectives S.points st.first m found n };
+    ghost then = { λ st m found n. Takes S.Law.Rule S.Single st.first m found n };
 }
 
 /// The view of a pass after it gave the turn back. A call at [`Brand`] picks it.
@@ -85,5 +85,5 @@ pub struct Look<S> {
 impl<S: Single> Play<S, Turn<S>> for Look<S> {
     ghost use Rattle.pls_turn.specs.TurnRule.{Looks};
 
-    ghost then = { λ st m found n. Looks S.Law.reply S.number m n };
+    ghost then = { λ st m found n. Looks S.Law.Rule S.Single m n };
 }

@@ -25,8 +25,8 @@ impl<S: Single> Turned<S> {
     fn try_take(&self, seat: &mut Seat<S, Turn<S>>, guess: u64) -> u64
         requires seat { IsSeatOf self.now seat.old }
         requires even { guess % 2 ≡ 0 }
-        ensures taken { result ≡ guess → HasTurn S.Law.front S.Law.reply S.number S.objectives S.points self.now seat.old.me.0.view seat.new
-            × HasArchive S.Law.front S.Law.reply S.number S.objectives S.points self.now seat.new.me.0.view.observed seat.new
+        ensures taken { result ≡ guess → HasTurn S.Law.Rule S.Single self.now seat.old.me.0.view seat.new
+            × HasArchive S.Law.Rule S.Single self.now seat.new.me.0.view.observed seat.new
             × (guess ≡ 2 * length seat.new.me.0.view.observed) }
         ensures missed { result ≢ guess → IsSeatOf self.now seat.new × (seat.new.me.0.view ≡ seat.old.me.0.view) }
     {
@@ -55,8 +55,8 @@ impl<S: Single> Turned<S> {
     pub(crate) fn take_turn<R: Wait>(&self, rt: &R, seat: &mut Seat<S, Turn<S>>, word: u64) -> u64
         requires seat { IsSeatOf self.now seat.old }
         requires even { word % 2 ≡ 0 }
-        ensures turn { HasTurn S.Law.front S.Law.reply S.number S.objectives S.points self.now seat.old.me.0.view seat.new }
-        ensures archive { HasArchive S.Law.front S.Law.reply S.number S.objectives S.points self.now seat.new.me.0.view.observed seat.new }
+        ensures turn { HasTurn S.Law.Rule S.Single self.now seat.old.me.0.view seat.new }
+        ensures archive { HasArchive S.Law.Rule S.Single self.now seat.new.me.0.view.observed seat.new }
         ensures count { result ≡ length seat.new.me.0.view.observed }
     {
         let mut guess = word;
@@ -77,7 +77,7 @@ impl<S: Single> Turned<S> {
     // Gives the turn back, with this answer of a call and its stamp.
     fn give_back<W: Said, A>(&self, seat: &mut Seat<S, Turn<S>>, note: &A, stamp: u64)
         requires table { seat.old.table_id ≡ self.now.table.shared.table_id }
-        requires may { (a : S) × (seat.old.me.1 ≡ (0, a) ∷ []) × MayGive S.Law.front S.Law.reply S.number S.objectives S.points (terms_of self.now) seat.old.me.0 W.view a }
+        requires may { (a : S) × (seat.old.me.1 ≡ (0, a) ∷ []) × MayGive S.Law.Rule S.Single (terms_of self.now) seat.old.me.0 W.view a }
         requires stamp { stamp ≡ length W.view.observed }
         ensures table { seat.new.table_id ≡ seat.old.table_id }
         ensures rests { seat.new.me ≡ (resting W.view seat.old.me.0, []) }
@@ -89,8 +89,8 @@ impl<S: Single> Turned<S> {
     // Gives the turn back, where the call made no entry.
     pub(crate) fn let_go(&self, pass: &mut TurnPass<S>, count: u64)
         requires table { pass.old.seat.table_id ≡ self.now.table.shared.table_id }
-        requires turn { IsInTurn S.Law.front S.Law.reply S.number S.objectives S.points (terms_of self.now) pass.old.seat.me.0 }
-        requires archive { HasArchive S.Law.front S.Law.reply S.number S.objectives S.points self.now pass.old.seat.me.0.view.observed pass.old.seat }
+        requires turn { IsInTurn S.Law.Rule S.Single (terms_of self.now) pass.old.seat.me.0 }
+        requires archive { HasArchive S.Law.Rule S.Single self.now pass.old.seat.me.0.view.observed pass.old.seat }
         requires count { count ≡ length pass.old.seat.me.0.view.observed }
         ensures pass { IsPassOf self.now pass.new }
         ensures view { view_of pass.new ≡ view_of pass.old }
@@ -102,8 +102,8 @@ impl<S: Single> Turned<S> {
     // Gives the turn back, with the entry of the call.
     pub(crate) fn answer<A: Answer>(&self, pass: &mut TurnPass<S>, note: &A, stamp: u64)
         requires table { pass.old.seat.table_id ≡ self.now.table.shared.table_id }
-        requires turn { IsInTurn S.Law.front S.Law.reply S.number S.objectives S.points (terms_of self.now) pass.old.seat.me.0 }
-        requires due { IsDue S.Law.front S.Law.reply S.number S.objectives S.points self.now pass.old.seat (A.call note.now) (A.reply note.now) stamp }
+        requires turn { IsInTurn S.Law.Rule S.Single (terms_of self.now) pass.old.seat.me.0 }
+        requires due { IsDue S.Law.Rule S.Single self.now pass.old.seat (A.call note.now) (A.reply note.now) stamp }
         ensures pass { IsPassOf self.now pass.new }
         ensures answers { Answers (S.Law.reply (S.number (terms_of self.now).single.value)) (terms_of self.now).passes (view_of pass.old) (A.call note.now) (A.reply note.now) stamp (view_of pass.new) }
     {

@@ -39,7 +39,7 @@ impl<S: Single> Turned<S> {
     // Whether the point would be accepted, and there are as many accepting entries as there may be.
     fn is_spent(&self, seat: &mut Seat<S, Turn<S>>, point: &Point, count: u64) -> bool
         requires table { seat.old.table_id ≡ self.now.table.shared.table_id }
-        requires archive { HasArchive S.Law.front S.Law.reply S.number S.objectives S.points self.now seat.old.me.0.view.observed seat.old }
+        requires archive { HasArchive S.Law.Rule S.Single self.now seat.old.me.0.view.observed seat.old }
         requires parts { length point.now.value ≡ S.objectives (terms_of self.now).single.value }
         requires count { count < 2 ^ 40 }
         ensures same { (seat.new.table_id ≡ seat.old.table_id) × (seat.new.me ≡ seat.old.me) }
@@ -58,8 +58,8 @@ impl<S: Single> Turned<S> {
         count: u64,
     ) -> Result<(Taken, u64), AllocError>
         requires table { pass.old.seat.table_id ≡ self.now.table.shared.table_id }
-        requires turn { IsInTurn S.Law.front S.Law.reply S.number S.objectives S.points (terms_of self.now) pass.old.seat.me.0 }
-        requires archive { HasArchive S.Law.front S.Law.reply S.number S.objectives S.points self.now pass.old.seat.me.0.view.observed pass.old.seat }
+        requires turn { IsInTurn S.Law.Rule S.Single (terms_of self.now) pass.old.seat.me.0 }
+        requires archive { HasArchive S.Law.Rule S.Single self.now pass.old.seat.me.0.view.observed pass.old.seat }
         requires parts { length point.now.value ≡ S.objectives (terms_of self.now).single.value }
         requires count { count ≡ length pass.old.seat.me.0.view.observed }
         requires room { count + one_if (is_accepting (Update point.now) (S.Law.reply (S.number (terms_of self.now).single.value) (submissions pass.old.seat.me.0.view.observed) (Update point.now))) < 2 ^ 40 }

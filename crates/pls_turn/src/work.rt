@@ -23,14 +23,14 @@ impl<S: Single> Turned<S> {
         point: &Point,
     ) -> Result<Taken, AllocError>
         requires table { seat.old.table_id ≡ self.now.table.shared.table_id }
-        requires archive { HasArchive S.Law.front S.Law.reply S.number S.objectives S.points self.now seat.old.me.0.view.observed seat.old }
+        requires archive { HasArchive S.Law.Rule S.Single self.now seat.old.me.0.view.observed seat.old }
         requires parts { length point.now.value ≡ S.objectives (terms_of self.now).single.value }
         ensures table { seat.new.table_id ≡ seat.old.table_id }
         ensures view { seat.new.me.0 ≡ seat.old.me.0 }
         ensures right { IfOk result (λ t. reply_of t ≡ S.Law.reply (S.number (terms_of self.now).single.value) (submissions seat.old.me.0.view.observed) (Update point.now)) }
         ensures archive { IfOk result (λ t. (e : Entry) → e.call ≡ Update point.now → e.reply ≡ reply_of t
-            → HasArchive S.Law.front S.Law.reply S.number S.objectives S.points self.now (observed_after e seat.old.me.0.view.observed) seat.new) }
-        ensures same { OnErr result (HasArchive S.Law.front S.Law.reply S.number S.objectives S.points self.now seat.old.me.0.view.observed seat.new) }
+            → HasArchive S.Law.Rule S.Single self.now (observed_after e seat.old.me.0.view.observed) seat.new) }
+        ensures same { OnErr result (HasArchive S.Law.Rule S.Single self.now seat.old.me.0.view.observed seat.new) }
     {
         let archive = seat.slot_mut(&self.table.shared, 0);
         archive.update(*point)
@@ -39,7 +39,7 @@ impl<S: Single> Turned<S> {
     // Whether the value is covered.
     pub(crate) fn ask_covered(&self, seat: &mut Seat<S, Turn<S>>, value: &Vector) -> bool
         requires table { seat.old.table_id ≡ self.now.table.shared.table_id }
-        requires archive { HasArchive S.Law.front S.Law.reply S.number S.objectives S.points self.now seat.old.me.0.view.observed seat.old }
+        requires archive { HasArchive S.Law.Rule S.Single self.now seat.old.me.0.view.observed seat.old }
         requires parts { length value.now ≡ S.objectives (terms_of self.now).single.value }
         ensures same { (seat.new.table_id ≡ seat.old.table_id) × (seat.new.me ≡ seat.old.me) }
         ensures right { yes_or_no result ≡ S.Law.reply (S.number (terms_of self.now).single.value) (submissions seat.old.me.0.view.observed) (Covered value.now) }
@@ -51,7 +51,7 @@ impl<S: Single> Turned<S> {
     // Whether the value is that of a member.
     pub(crate) fn ask_member(&self, seat: &mut Seat<S, Turn<S>>, value: &Vector) -> bool
         requires table { seat.old.table_id ≡ self.now.table.shared.table_id }
-        requires archive { HasArchive S.Law.front S.Law.reply S.number S.objectives S.points self.now seat.old.me.0.view.observed seat.old }
+        requires archive { HasArchive S.Law.Rule S.Single self.now seat.old.me.0.view.observed seat.old }
         requires parts { length value.now ≡ S.objectives (terms_of self.now).single.value }
         ensures same { (seat.new.table_id ≡ seat.old.table_id) × (seat.new.me ≡ seat.old.me) }
         ensures right { yes_or_no result ≡ S.Law.reply (S.number (terms_of self.now).single.value) (submissions seat.old.me.0.view.observed) (Member value.now) }
@@ -67,7 +67,7 @@ impl<S: Single> Turned<S> {
         seat: &mut Seat<S, Turn<S>>,
     ) -> Result<PointList, AllocError>
         requires table { seat.old.table_id ≡ self.now.table.shared.table_id }
-        requires archive { HasArchive S.Law.front S.Law.reply S.number S.objectives S.points self.now seat.old.me.0.view.observed seat.old }
+        requires archive { HasArchive S.Law.Rule S.Single self.now seat.old.me.0.view.observed seat.old }
         ensures same { (seat.new.table_id ≡ seat.old.table_id) × (seat.new.me ≡ seat.old.me) }
         ensures right { IfOk result (λ points. Points points ≡ S.Law.reply (S.number (terms_of self.now).single.value) (submissions seat.old.me.0.view.observed) Snapshot) }
     {

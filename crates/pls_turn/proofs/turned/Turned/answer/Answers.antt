@@ -10,7 +10,7 @@ give_back-requires-clause-may g c =
     let due = c.requires.due in (
       due.archive.0,
       due.archive.1,
-      (given_back g.S.Law.Rule.front g.S.Law.Rule.reply g.S.Single.number g.S.Single.objectives g.S.Single.points (terms_of c.args.self.now) c.args.pass.now.seat.me.0 c.requires.turn
+      (given_back g.S.Law.Rule g.S.Single (terms_of c.args.self.now) c.args.pass.now.seat.me.0 c.requires.turn
           (g.A.Answer.call c.args.note.now) (g.A.Answer.reply c.args.note.now) c.args.stamp due.right due.few due.stamped).0 due.archive.0 due.archive.2,
     )
 
@@ -21,5 +21,5 @@ returns-clause-answers g c =
     let reply = g.A.Answer.reply c.args.note.now in
     subst (λ (v : View). Answers (g.S.Law.Rule.reply (g.S.Single.number (terms_of c.args.self.now).single.value)) (terms_of c.args.self.now).passes (view_of c.args.pass.now) call reply c.args.stamp v)
     (sym (ap (λ m. m.0.view) c.give_back.ensures.rests))
-    (given_back g.S.Law.Rule.front g.S.Law.Rule.reply g.S.Single.number g.S.Single.objectives g.S.Single.points (terms_of c.args.self.now) c.args.pass.now.seat.me.0 c.requires.turn
+    (given_back g.S.Law.Rule g.S.Single (terms_of c.args.self.now) c.args.pass.now.seat.me.0 c.requires.turn
     call reply c.args.stamp due.right due.few due.stamped).1

@@ -11,6 +11,6 @@ store-requires g c =
     let stamp = c.requires.stamp in (
       c.requires.table,
       omega arith,
-      gives_at g.S.Law.Rule.front g.S.Law.Rule.reply g.S.Single.number g.S.Single.objectives g.S.Single.points turned.table.shared.key turned.table.shared.table_id.slots seat.id seat.me
+      gives_at g.S.Law.Rule g.S.Single turned.table.shared.key turned.table.shared.table_id.slots seat.id seat.me
           g.W.Said.view may.0 (2 * c.args.stamp) may.2.terms_are may.1 may.2 (omega arith),
     )

@@ -17,7 +17,7 @@ join_seat-requires g c =
       λ s kept at apart there. (
         kept.0,
         kept.1,
-        joins g.S.Law.Rule.front g.S.Law.Rule.reply g.S.Single.number g.S.Single.objectives g.S.Single.points c.args.self.now.table.shared.key s kept.0 kept.1 kept.2 seat.id seat.me.0 at
+        joins g.S.Law.Rule g.S.Single c.args.self.now.table.shared.key s kept.0 kept.1 kept.2 seat.id seat.me.0 at
             c.requires.pass.terms_are c.requires.pass.rests other.id other.me.0 there apart c.requires.other.terms_are c.requires.other.rests,
       ),
     )
@@ -28,7 +28,7 @@ load-requires g c =
     let counts = c.args.self.now.counts.0 in (
       c.join_seat.ensures.0 ∙ c.requires.pass.at_table,
       omega arith,
-      looks_at g.S.Law.Rule.front g.S.Law.Rule.reply g.S.Single.number g.S.Single.objectives g.S.Single.points c.args.self.now.table.shared.key c.args.self.now.table.shared.table_id.slots seat.id
+      looks_at g.S.Law.Rule g.S.Single c.args.self.now.table.shared.key c.args.self.now.table.shared.table_id.slots seat.id
           seat.me (ap (λ m. m.0.terms) c.join_seat.ensures.2 ∙ c.requires.pass.terms_are),
     )
 

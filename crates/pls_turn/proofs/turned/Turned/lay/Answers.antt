@@ -10,5 +10,5 @@ pub new-requires : goal.new-requires
 new-requires g c =
     let key : Terms _ = record { single = c.of.result; passes = c.args.passes } in
     let items : c.push.new.self.items ≡ c.args.single ∷ [] = search rules in
-    subst (λ (xs : List _). Holds g.S.Law.Rule.front g.S.Law.Rule.reply g.S.Single.number g.S.Single.objectives g.S.Single.points key (opening (0 ∷ []) xs (first_turn key))) (sym items)
-    (opens g.S.Law.Rule.front g.S.Law.Rule.reply g.S.Single.number g.S.Single.objectives g.S.Single.points g.S.Law.Rule.laws key c.args.single c.of.ensures c.requires.empty c.requires.passes)
+    subst (λ (xs : List _). Holds g.S.Law.Rule g.S.Single key (opening (0 ∷ []) xs (first_turn key))) (sym items)
+    (opens g.S.Law.Rule g.S.Single g.S.Law.Rule.laws key c.args.single c.of.ensures c.requires.empty c.requires.passes)

@@ -22,7 +22,7 @@ split_seat-other-requires g c =
       λ s kept at. (
         kept.0,
         kept.1,
-        splits g.S.Law.Rule.front g.S.Law.Rule.reply g.S.Single.number g.S.Single.objectives g.S.Single.points turned.table.shared.key s kept.0 kept.1 kept.2 seat.id seat.me.0 at
+        splits g.S.Law.Rule g.S.Single turned.table.shared.key s kept.0 kept.1 kept.2 seat.id seat.me.0 at
             is.terms_are is.rests (omega arith),
       ),
     )

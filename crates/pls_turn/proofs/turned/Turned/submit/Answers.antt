@@ -13,13 +13,13 @@ returns-clause-archive g c =
     let a = c.slot_mut-archive.result.now in
     let log = c.args.seat.now.me.0.view.observed in
     let same : held.0 ≡ a = ap (λ (l : List (ℕ × g.row.S.Denot)). (get_or l 0 (0, held.0)).1) (sym held.1 ∙ c.slot_mut-archive.ensures.value) in
-    let archive : IsArchiveAt g.S.Law.Rule.front g.S.Law.Rule.reply g.S.Single.number g.S.Single.objectives g.S.Single.points key log a =
-    subst (λ x. IsArchiveAt g.S.Law.Rule.front g.S.Law.Rule.reply g.S.Single.number g.S.Single.objectives g.S.Single.points key log x) same held.2 in
+    let archive : IsArchiveAt g.S.Law.Rule g.S.Single key log a =
+    subst (λ x. IsArchiveAt g.S.Law.Rule g.S.Single key log x) same held.2 in
     IfOk-weaker c.update.result _ _
     (λ t updates e call_is reply_is. (
       c.update.new.self,
       ap (λ l. (0, c.update.new.self) ∷ l) (ap rest held.1),
-      archive_now g.S.Law.Rule.front g.S.Law.Rule.reply g.S.Single.number g.S.Single.objectives g.S.Single.points key log a archive g.S.Law.Rule.laws c.args.point.now t c.update.new.self updates
+      archive_now g.S.Law.Rule g.S.Single key log a archive g.S.Law.Rule.laws c.args.point.now t c.update.new.self updates
           c.update.ensures.number c.update.ensures.objectives e call_is reply_is,
     ))
     c.update.ensures.updates

@@ -11,9 +11,9 @@ pub answer-requires-clause-due : goal.answer-requires-clause-due
 answer-requires-clause-due g c =
     let p = c.args.point.now in
     let count = c.requires.count in
-    subst (λ q. IsDue g.S.Law.Rule.front g.S.Law.Rule.reply g.S.Single.number g.S.Single.objectives g.S.Single.points c.args.self.now c.submit.new.seat (Update q) (reply_of c.in-Ok.taken) c.stamp_of-stamp.result)
+    subst (λ q. IsDue g.S.Law.Rule g.S.Single c.args.self.now c.submit.new.seat (Update q) (reply_of c.in-Ok.taken) c.stamp_of-stamp.result)
     (sym c.of-point.ensures)
-    (submitted g.S.Law.Rule.front g.S.Law.Rule.reply g.S.Single.number g.S.Single.objectives g.S.Single.points c.args.self.now c.args.pass.now.seat c.submit.new.seat p c.in-Ok.taken
+    (submitted g.S.Law.Rule g.S.Single c.args.self.now c.args.pass.now.seat c.submit.new.seat p c.in-Ok.taken
     c.stamp_of-stamp.result c.in-Ok.ensures.view c.in-Ok.ensures.right c.in-Ok.ensures.archive
     (c.stamp_of-stamp.ensures p ∙ ap (λ n. n + one_if (is_accepting (Update p) (reply_of c.in-Ok.taken))) count)
     (let room = c.requires.room in omega arith))

@@ -13,7 +13,7 @@ compare_exchange-requires g c =
     let counts = turned.counts.0 in (
       c.requires.seat.at_table,
       omega arith,
-      takes_at g.S.Law.Rule.front g.S.Law.Rule.reply g.S.Single.number g.S.Single.objectives g.S.Single.points turned.table.shared.key turned.table.shared.table_id.slots seat.id seat.me
+      takes_at g.S.Law.Rule g.S.Single turned.table.shared.key turned.table.shared.table_id.slots seat.id seat.me
           c.args.guess (c.args.guess + 1) c.requires.seat.terms_are c.requires.even refl,
     )
 
@@ -28,7 +28,7 @@ returns-clause-taken g c =
       record {
         at_table = made.0 ∙ c.requires.seat.at_table;
         turn =
-            subst (λ t. IsInTurn g.S.Law.Rule.front g.S.Law.Rule.reply g.S.Single.number g.S.Single.objectives g.S.Single.points c.args.self.now.table.shared.key t)
+            subst (λ t. IsInTurn g.S.Law.Rule g.S.Single c.args.self.now.table.shared.key t)
             (sym (ap (λ m. m.0) me_is)) took.turn;
         view_is = ap (λ m. m.0.view) me_is ∙ ap {A = List Entry} {B = View} (λ l. record seat.me.0.view { observed = l }) (sym seen_is);
         further = subst (λ (l : List Entry). IsPrefix seat.me.0.view.observed l) (sym seen_is) took.further;
@@ -36,7 +36,7 @@ returns-clause-taken g c =
       (
         took.archive,
         ap (λ m. m.1) me_is ∙ ap (λ rest. (0, took.archive) ∷ rest) c.requires.seat.bare,
-        subst (λ (l : List Entry). IsArchiveAt g.S.Law.Rule.front g.S.Law.Rule.reply g.S.Single.number g.S.Single.objectives g.S.Single.points c.args.self.now.table.shared.key l took.archive)
+        subst (λ (l : List Entry). IsArchiveAt g.S.Law.Rule g.S.Single c.args.self.now.table.shared.key l took.archive)
             (sym seen_is) took.members,
       ),
       sym same ∙ (took.count ∙ ap (λ (l : List Entry). 2 * length l) (sym seen_is)),

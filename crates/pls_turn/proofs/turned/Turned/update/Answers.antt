@@ -9,7 +9,7 @@ use Rattle.pls_turn.proofs.turned.Turned.update.Goals as goal
 
 pub returns-in-Ok-clause-answers : goal.returns-in-Ok-clause-answers
 returns-in-Ok-clause-answers g c =
-    answers_sooner g.S.Law.Rule.front g.S.Law.Rule.reply g.S.Single.number g.S.Single.objectives g.S.Single.points c.args.self.now (view_of c.args.pass.now) c.take_turn-count.new.seat c.take_turn-count.ensures.turn
+    answers_sooner g.S.Law.Rule g.S.Single c.args.self.now (view_of c.args.pass.now) c.take_turn-count.new.seat c.take_turn-count.ensures.turn
     (Update c.args.point) (reply_of c.in-Ok.answer.0) c.in-Ok.answer.1 (view_of c.submit_in_turn.new.pass)
     (subst
     (λ (v : View). Answers (g.S.Law.Rule.reply (g.S.Single.number (terms_of c.args.self.now).single.value)) (terms_of c.args.self.now).passes v (Update c.args.point) (reply_of c.in-Ok.answer.0)
@@ -18,5 +18,5 @@ returns-in-Ok-clause-answers g c =
 
 pub returns-in-Err-clause-refused : goal.returns-in-Err-clause-refused
 returns-in-Err-clause-refused g c =
-    refused_sooner g.S.Law.Rule.front g.S.Law.Rule.reply g.S.Single.number g.S.Single.objectives g.S.Single.points c.args.self.now (view_of c.args.pass.now) c.take_turn-count.new.seat
+    refused_sooner g.S.Law.Rule g.S.Single c.args.self.now (view_of c.args.pass.now) c.take_turn-count.new.seat
     c.take_turn-count.ensures.turn (view_of c.submit_in_turn.new.pass) (c.in-Err.ensures.same ∙ ap (λ m. m.0.view) c.is_spent.ensures.same.1)
