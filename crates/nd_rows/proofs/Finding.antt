@@ -1,5 +1,5 @@
 -- The row of a point that answers a question, from the leaf that links it up to the root.
-use Rattle.std.proofs.Common.{◌≡◌, ℕ, ◌/◌, ◌%◌, ◌⊎◌, inl, inr, true, Option, Some, None, List, ◌∷◌, length, sym, subst, ◌∙◌, arith, ℤ}
+use Rattle.std.proofs.Common.{◌≡◌, ℕ, ◌/◌, ◌%◌, inl, inr, true, Option, Some, None, List, length, sym, subst, ◌∙◌, arith, ℤ}
 use Rattle.std.specs.Prelude.{IfSome}
 use Rattle.std.specs.Option.{option_or}
 use Rattle.era_core.specs.Lists.{In}

@@ -5,8 +5,8 @@ use Rattle.std.proofs.lemmas.Bool.{and_from}
 use Rattle.std.proofs.lemmas.List.{take-append-drop}
 use Rattle.era_core.specs.Lists.{In}
 use Rattle.era_core.proofs.ListFacts.{in_head, in_tail, in_cases, in-append_left, in-append_right}
-use Rattle.era_rows.specs.Known.{Known, pinned_copy}
-use Rattle.era_rows.specs.Passes.{known_of, seen_of, marked_of, work_of, IsPassOf, HasSame}
+use Rattle.era_rows.specs.Known.{pinned_copy}
+use Rattle.era_rows.specs.Passes.{known_of, seen_of, IsPassOf, HasSame}
 use Rattle.era_rows.specs.declared.pass.Pass.{Pass}
 use Rattle.era_rows.specs.declared.rows.Rows.{Rows}
 use Rattle.era_rows.specs.declared.law.Law.{Ghosts}

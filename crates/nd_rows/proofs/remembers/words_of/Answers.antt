@@ -1,4 +1,4 @@
-use Rattle.std.proofs.Common.{◌≡◌, ◌<◌, refl, arith, length}
+use Rattle.std.proofs.Common.{refl, arith}
 use Rattle.nd_rows.proofs.Remembered.{words_more, words_all, value_all}
 use Rattle.nd_rows.proofs.remembers.words_of.Goals as goal
 

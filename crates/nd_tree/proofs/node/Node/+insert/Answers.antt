@@ -17,9 +17,9 @@ add-len-requires-clause-room t c =
     let longest = ap (λ (s : Seen). s.longest) (sym c.self.view_is ∙ ap seen c.in-Leaf.is) in
     let room = c.requires.room in omega arith
 
-pub divided-boxes-requires-clause-parts : goal.divided-boxes-requires-clause-parts
+pub divided-boxes-requires : goal.divided-boxes-requires
 unfolding seen
-divided-boxes-requires-clause-parts t c =
+divided-boxes-requires t c =
     let n = length c.args.point.now.value in
     let is = sym c.self.view_is ∙ ap seen c.in-Leaf.is in
     let before = subst (λ (s : Seen). Every (λ q. length q.value ≡ n) s.points) is c.requires.parts in
@@ -28,51 +28,17 @@ divided-boxes-requires-clause-parts t c =
     (Every-append (λ (q : Point). length q.value ≡ n) c.in-Leaf.leaf.points (c.args.point.now ∷ []) before (refl, tt)) in
     let long = c.add-len.ensures.len in
     let full : c.add-len.result ≡ 21 = search rules in
-    (equal-parts n c.add-len.new.leaf.points (omega arith) all).1
-
-pub divided-boxes-requires-clause-several : goal.divided-boxes-requires-clause-several
-unfolding seen
-divided-boxes-requires-clause-several t c =
-    let n = length c.args.point.now.value in
-    let is = sym c.self.view_is ∙ ap seen c.in-Leaf.is in
-    let before = subst (λ (s : Seen). Every (λ q. length q.value ≡ n) s.points) is c.requires.parts in
-    let all : Every (λ q. length q.value ≡ n) c.add-len.new.leaf.points =
-    subst (λ (ps : List Point). Every (λ q. length q.value ≡ n) ps) (sym c.add-len.ensures.points)
-    (Every-append (λ (q : Point). length q.value ≡ n) c.in-Leaf.leaf.points (c.args.point.now ∷ []) before (refl, tt)) in
-    let long = c.add-len.ensures.len in
-    let full : c.add-len.result ≡ 21 = search rules in
-    let first = (equal-parts n c.add-len.new.leaf.points (omega arith) all).0 in
-    let some = c.requires.some in omega arith
-
-pub divided-boxes-requires-clause-leaves : goal.divided-boxes-requires-clause-leaves
-unfolding seen
-divided-boxes-requires-clause-leaves t c =
-    let n = length c.args.point.now.value in
-    let is = sym c.self.view_is ∙ ap seen c.in-Leaf.is in
-    let before = subst (λ (s : Seen). Every (λ q. length q.value ≡ n) s.points) is c.requires.parts in
-    let all : Every (λ q. length q.value ≡ n) c.add-len.new.leaf.points =
-    subst (λ (ps : List Point). Every (λ q. length q.value ≡ n) ps) (sym c.add-len.ensures.points)
-    (Every-append (λ (q : Point). length q.value ≡ n) c.in-Leaf.leaf.points (c.args.point.now ∷ []) before (refl, tt)) in
-    let long = c.add-len.ensures.len in
-    let full : c.add-len.result ≡ 21 = search rules in
-    let first = (equal-parts n c.add-len.new.leaf.points (omega arith) all).0 in
-    let some = c.requires.leaves in
-    let taken = c.add-len.ensures.leaves in omega arith
-
-pub divided-boxes-requires-clause-links : goal.divided-boxes-requires-clause-links
-unfolding seen
-divided-boxes-requires-clause-links t c =
-    let n = length c.args.point.now.value in
-    let is = sym c.self.view_is ∙ ap seen c.in-Leaf.is in
-    let before = subst (λ (s : Seen). Every (λ q. length q.value ≡ n) s.points) is c.requires.parts in
-    let all : Every (λ q. length q.value ≡ n) c.add-len.new.leaf.points =
-    subst (λ (ps : List Point). Every (λ q. length q.value ≡ n) ps) (sym c.add-len.ensures.points)
-    (Every-append (λ (q : Point). length q.value ≡ n) c.in-Leaf.leaf.points (c.args.point.now ∷ []) before (refl, tt)) in
-    let long = c.add-len.ensures.len in
-    let full : c.add-len.result ≡ 21 = search rules in
-    let first = (equal-parts n c.add-len.new.leaf.points (omega arith) all).0 in
-    let some = c.requires.links in
-    let same = c.add-len.ensures.links in omega arith
+    let equal = equal-parts n c.add-len.new.leaf.points (omega arith) all in
+    let taken = c.add-len.ensures.leaves in
+    let same = c.add-len.ensures.links in
+    record {
+      many = search rules;
+      parts = equal.1;
+      several = omega (arith, equal.0, c.requires.some);
+      leaves = omega (arith, equal.0, c.requires.leaves, taken);
+      links = omega (arith, equal.0, c.requires.links, same);
+      room = search rules;
+    }
 
 pub closest-k-requires-clause-parts : goal.closest-k-requires-clause-parts
 unfolding seen
@@ -192,32 +158,27 @@ returns-then-levels-gt0-clause-longest t c =
     let full : c.add-len.result ≡ 21 = search rules in
     omega arith
 
-pub returns-else-len-eq-FULL-clause-points : goal.returns-else-len-eq-FULL-clause-points
+pub returns-else-len-eq-FULL : goal.returns-else-len-eq-FULL
 unfolding seen
-returns-else-len-eq-FULL-clause-points t c test =
-    let is = ap (λ (s : Seen). how_many test s.points) (sym c.self.view_is ∙ ap seen c.in-Leaf.is) in
-    let pushed = often-push c.in-Leaf.leaf.points c.args.point.now test in
-    let added = ap (how_many test) c.add-len.ensures.points in
-    let whole : c.else-len-eq-FULL.self.points ≡ c.add-len.new.leaf.points = elim c.else-len-eq-FULL.branch [
-      | else-len-eq-FULL-via-then-len-eq-FULL+else-levels-gt0 w ↦ ap (λ (s : Seen). s.points) w.self-is
-      | else-len-eq-FULL-via-else-len-eq-FULL w ↦ ap (λ (s : Seen). s.points) w.self-is
+returns-else-len-eq-FULL t c =
+    let leaf = c.add-len.new.leaf in
+    let whole : (c.else-len-eq-FULL.self.points ≡ leaf.points) × (c.else-len-eq-FULL.self.longest ≡ length leaf.points) = elim c.else-len-eq-FULL.branch [
+      | else-len-eq-FULL-via-then-len-eq-FULL+else-levels-gt0 w ↦ (ap (λ (s : Seen). s.points) w.self-is, ap (λ (s : Seen). s.longest) w.self-is)
+      | else-len-eq-FULL-via-else-len-eq-FULL w ↦ (ap (λ (s : Seen). s.points) w.self-is, ap (λ (s : Seen). s.longest) w.self-is)
     ] in
-    let same = ap (how_many test) whole in
-    omega arith
+    record {
+      points = λ test.
+          let is = ap (λ (s : Seen). how_many test s.points) (sym c.self.view_is ∙ ap seen c.in-Leaf.is) in
+          let pushed = often-push c.in-Leaf.leaf.points c.args.point.now test in
+          let added = ap (how_many test) c.add-len.ensures.points in
+          let same = ap (how_many test) whole.0 in
+          omega arith;
+      longest = let long = c.add-len.ensures.len in omega (arith, long, whole.1);
+    }
 
-pub returns-else-len-eq-FULL-clause-longest : goal.returns-else-len-eq-FULL-clause-longest
+pub returns-in-Inner : goal.returns-in-Inner
 unfolding seen
-returns-else-len-eq-FULL-clause-longest t c =
-    let long = c.add-len.ensures.len in
-    let whole : c.else-len-eq-FULL.self.longest ≡ length c.add-len.new.leaf.points = elim c.else-len-eq-FULL.branch [
-      | else-len-eq-FULL-via-then-len-eq-FULL+else-levels-gt0 w ↦ ap (λ (s : Seen). s.longest) w.self-is
-      | else-len-eq-FULL-via-else-len-eq-FULL w ↦ ap (λ (s : Seen). s.longest) w.self-is
-    ] in
-    omega arith
-
-pub returns-in-Inner-clause-points : goal.returns-in-Inner-clause-points
-unfolding seen
-returns-in-Inner-clause-points t c test =
+returns-in-Inner t c =
     let boxes = c.in-Inner.boxes.items in
     let nodes = c.in-Inner.children.items in
     let formed : AreChildren boxes nodes = subst IsFormed c.in-Inner.is c.self.invariant in
@@ -228,25 +189,18 @@ returns-in-Inner-clause-points t c test =
     let within : k < length nodes = omega arith in
     let s = c.index_mut-in-Inner.result.now in
     let at : get_or nodes k s ≡ s = search rules in
-    let is = ap (λ (x : Seen). how_many test x.points) (sym c.self.view_is ∙ ap seen c.in-Inner.is) in
-    let often = often-set c.args.point.now nodes k c.insert.new.self s within
-    (subst (λ (x : Seen). AsOften (c.args.point.now ∷ x.points) c.insert.new.self.points) (sym at) c.insert.ensures.points) test in
-    omega arith
-
-pub returns-in-Inner-clause-longest : goal.returns-in-Inner-clause-longest
-unfolding seen
-returns-in-Inner-clause-longest t c =
-    let boxes = c.in-Inner.boxes.items in
-    let nodes = c.in-Inner.children.items in
-    let formed : AreChildren boxes nodes = subst IsFormed c.in-Inner.is c.self.invariant in
-    let same = enclosed-length boxes nodes formed.enclosed in
-    let here = ap length c.deref.ensures.value in
-    let k = c.closest-k.result in
-    let bound = c.closest-k.ensures.bound in
-    let within : k < length nodes = omega arith in
-    let s = c.index_mut-in-Inner.result.now in
-    let at : get_or nodes k s ≡ s = search rules in
-    let is = ap (λ (x : Seen). x.longest) (sym c.self.view_is ∙ ap seen c.in-Inner.is) in
-    let grown = longest-grown nodes k c.insert.result c.insert.new.self s within
-    (subst (λ (x : Seen). c.insert.new.self.longest ≤ max x.longest c.insert.result) (sym at) c.insert.ensures.longest) in
-    omega arith
+    let is = sym c.self.view_is ∙ ap seen c.in-Inner.is in
+    record {
+      points = λ test.
+          let before = ap (λ (x : Seen). how_many test x.points) is in
+          let often =
+          often-set c.args.point.now nodes k c.insert.new.self s within
+          (subst (λ (x : Seen). AsOften (c.args.point.now ∷ x.points) c.insert.new.self.points) (sym at) c.insert.ensures.points) test in
+          omega arith;
+      longest =
+          let before = ap (λ (x : Seen). x.longest) is in
+          let grown =
+          longest-grown nodes k c.insert.result c.insert.new.self s within
+          (subst (λ (x : Seen). c.insert.new.self.longest ≤ max x.longest c.insert.result) (sym at) c.insert.ensures.longest) in
+          omega arith;
+    }
