@@ -1,4 +1,4 @@
--- A node is copied into a fresh row: its links, word 0, and the box of the row before.
+-- The copy of a node in a fresh row is ended: word 0, and the box of the row before.
 use Rattle.std.proofs.Common.{◌≡◌, ℕ, inr, [], ◌∷◌, length, ap, ◌∙◌, arith}
 use Rattle.era_core.specs.Lists.{In}
 use Rattle.era_core.specs.Versions.{Copy}
@@ -26,32 +26,32 @@ module _ {L : Type 0} {G : Ghosts L Entry} (r : Rows L Entry) where
   pub writes_none : (p : Pass L Entry G) (own : ℕ) → IsBuilding r p → Does r [] [] (own ∷ []) p p
   writes_none p own building = does_wider r [] [] [] (own ∷ []) p p (λ x here. absurd (omega (arith, here))) (does_none r p building)
 
-  -- the links were written, and word 0
-  module _ (own row : ℕ) (p q s1 : Pass L Entry G) (links : Does r [] [] (own ∷ []) p q) (first : Does r [] [] (own ∷ []) q s1) where
-    written : Does r [] [] (own ∷ []) p s1
-    written = writes_both r own p q s1 links first
+  -- the box of a pinned row stands there still
+  pub still_boxed : (own row : ℕ) (p q : Pass L Entry G) → Does r [] [] (own ∷ []) p q → (b : Box) → IsBoxRow r.shape (pinned_copy (known_of p)).cells row b
+      → IsBoxRow r.shape (pinned_copy (known_of q)).cells row b
+  still_boxed own row p q links b = stay_pinned r (λ (x : Copy). IsBoxRow r.shape x.cells row b) [] [] (own ∷ []) p q links
 
+  -- word 0 was written
+  module _ (own row : ℕ) (p s1 : Pass L Entry G) (first : Does r [] [] (own ∷ []) p s1) where
     pub own_fresh : (s2 : Pass L Entry G) → Does r [] [] [] s1 s2 → In own (known_of p).core.fresh → In own (known_of s2).core.fresh
-    own_fresh s2 read mine = still_fresh r [] [] (own ∷ []) p s2 (does_read r [] [] (own ∷ []) p s1 s2 written read) own mine
+    own_fresh s2 read mine = still_fresh r [] [] (own ∷ []) p s2 (does_read r [] [] (own ∷ []) p s1 s2 first read) own mine
 
     pub readable_row : In row (pinned_copy (known_of p)).rows → IsReadable row (known_of s1)
-    readable_row here = inr (row_still r [] [] (own ∷ []) p s1 written row here)
+    readable_row here = inr (row_still r [] [] (own ∷ []) p s1 first row here)
 
     -- the box stands among the words that the pass knows
     pub box_known : In row (pinned_copy (known_of p)).rows → (b : Box) → IsBoxRow r.shape (pinned_copy (known_of p)).cells row b → IsBoxRow r.shape (known_words (known_of s1)) row b
     box_known here b boxed =
-        box-alike r.shape (pinned_copy (known_of s1)).cells (known_words (known_of s1)) row b (λ k w there. pinned_words r s1 written.building row (row_still r [] [] (own ∷ []) p s1 written row here) k ∙ there)
-        (stay_pinned r (λ (x : Copy). IsBoxRow r.shape x.cells row b) [] [] (own ∷ []) p s1 written boxed)
+        box-alike r.shape (pinned_copy (known_of s1)).cells (known_words (known_of s1)) row b (λ k w there. pinned_words r s1 first.building row (row_still r [] [] (own ∷ []) p s1 first row here) k ∙ there)
+        (still_boxed own row p s1 first b boxed)
 
   -- all of it was written
-  pub copy_does : (own : ℕ) (p q s1 s2 s3 : Pass L Entry G) → Does r [] [] (own ∷ []) p q → Does r [] [] (own ∷ []) q s1 → Does r [] [] [] s1 s2 → Does r [] [] (own ∷ []) s2 s3 → Does r [] [] (own ∷ []) p s3
-  copy_does own p q s1 s2 s3 links first read box =
-      writes_both r own p s2 s3 (does_read r [] [] (own ∷ []) p s1 s2 (writes_both r own p q s1 links first) read) box
+  pub copy_does : (own : ℕ) (p s1 s2 s3 : Pass L Entry G) → Does r [] [] (own ∷ []) p s1 → Does r [] [] [] s1 s2 → Does r [] [] (own ∷ []) s2 s3 → Does r [] [] (own ∷ []) p s3
+  copy_does own p s1 s2 s3 first read box = writes_both r own p s2 s3 (does_read r [] [] (own ∷ []) p s1 s2 first read) box
 
   -- and words of the row alone were found
-  pub copy_only : (own row : ℕ) (p q s1 s2 s3 : Pass L Entry G) → Does r [] [] (own ∷ []) p q → Does r [] [] (own ∷ []) q s1 → Does r [] [] [] s1 s2
-      → ReadsOnly (row ∷ []) (known_of p) (known_of q) → ReadsOnly [] (known_of q) (known_of s1) → ReadsOnly (row ∷ []) (known_of s1) (known_of s2) → ReadsOnly [] (known_of s2) (known_of s3) → ReadsOnly (row ∷ []) (known_of p) (known_of s3)
-  copy_only own row p q s1 s2 s3 links first read only_links only_first only_box only_last =
-      only_then r [] [] (own ∷ []) (row ∷ []) p q s3 links only_links
-      (only_then r [] [] (own ∷ []) (row ∷ []) q s1 s3 first (only_any (row ∷ []) (known_of q) (known_of s1) only_first)
-      (only_then r [] [] [] (row ∷ []) s1 s2 s3 read only_box (only_any (row ∷ []) (known_of s2) (known_of s3) only_last)))
+  pub copy_only : (own row : ℕ) (p s1 s2 s3 : Pass L Entry G) → Does r [] [] (own ∷ []) p s1 → Does r [] [] [] s1 s2
+      → ReadsOnly [] (known_of p) (known_of s1) → ReadsOnly (row ∷ []) (known_of s1) (known_of s2) → ReadsOnly [] (known_of s2) (known_of s3) → ReadsOnly (row ∷ []) (known_of p) (known_of s3)
+  copy_only own row p s1 s2 s3 first read only_first only_box only_last =
+      only_then r [] [] (own ∷ []) (row ∷ []) p s1 s3 first (only_any (row ∷ []) (known_of p) (known_of s1) only_first)
+      (only_then r [] [] [] (row ∷ []) s1 s2 s3 read only_box (only_any (row ∷ []) (known_of s2) (known_of s3) only_last))

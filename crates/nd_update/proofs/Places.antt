@@ -127,22 +127,42 @@ module _ (new : ℕ) where
       itself = refl;
     }
     parted (leaf r b placed later) (leaf name box named others) (suc k) low are =
-        let below = parted later others k (omega arith) are.3 in record below {
+        let below = parted later others k (omega arith) are.3 in record {
           first = leaf r b placed below.first;
+          rest = below.rest;
           first' = leaf name box named below.first';
+          node' = below.node';
+          rest' = below.rest';
+          row = below.row;
           are_first = (are.0, are.1, are.2, below.are_first);
+          is_node = below.is_node;
+          are_rest = below.are_rest;
           parts = ap (λ ns. leaf r b placed ns) below.parts;
           parts' = ap (λ ns. leaf name box named ns) below.parts';
+          here = below.here;
+          row_is = below.row_is;
           moved = λ c. ap (λ xs. name ∷ xs) (below.moved c);
           inserted = ap (λ ns. leaf r b placed ns) below.inserted;
+          is_way = below.is_way;
+          itself = below.itself;
         }
     parted (inner r b kids later) (inner name box named others) (suc k) low are =
-        let below = parted later others k (omega arith) are.3 in record below {
+        let below = parted later others k (omega arith) are.3 in record {
           first = inner r b kids below.first;
+          rest = below.rest;
           first' = inner name box named below.first';
+          node' = below.node';
+          rest' = below.rest';
+          row = below.row;
           are_first = (are.0, are.1, are.2, below.are_first);
+          is_node = below.is_node;
+          are_rest = below.are_rest;
           parts = ap (λ ns. inner r b kids ns) below.parts;
           parts' = ap (λ ns. inner name box named ns) below.parts';
+          here = below.here;
+          row_is = below.row_is;
           moved = λ c. ap (λ xs. name ∷ xs) (below.moved c);
           inserted = ap (λ ns. inner r b kids ns) below.inserted;
+          is_way = below.is_way;
+          itself = below.itself;
         }

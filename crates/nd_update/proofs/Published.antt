@@ -1,20 +1,18 @@
 -- What a pass has after it published what it built, or did not.
-use Rattle.std.proofs.Common.{◌≡◌, ℕ, ◌<◌, Bool, true, not, Some, if◌then◌else◌, List, [], ◌∷◌, filter, length, refl, sym, ap, subst, ◌∙◌, arith}
-use Rattle.std.specs.Prelude.{slice_index_or, Result, Ok, Err}
+use Rattle.std.proofs.Common.{◌≡◌, ℕ, Bool, not, if◌then◌else◌, List, [], ◌∷◌, length, refl, sym, ap, subst, ◌∙◌, arith}
+use Rattle.std.specs.Prelude.{slice_index_or, Ok}
 use Rattle.std.proofs.lemmas.Bool.{lt-ltb}
-use Rattle.era_core.specs.Lists.{times, In, is_in, without}
+use Rattle.era_core.specs.Lists.{times, In, without}
 use Rattle.era_core.specs.Versions.{Copy}
 use Rattle.era_core.proofs.ListFacts.{in_head, in_tail}
 use Rattle.era_rows.specs.Known.{Known, copy_known}
-use Rattle.era_rows.specs.May.{MayPublish}
-use Rattle.era_rows.specs.Passes.{known_of, knows_of, IsStarted}
+use Rattle.era_rows.specs.Passes.{IsStarted}
 use Rattle.era_rows.specs.declared.pass.Pass.{Pass}
 use Rattle.era_rows.specs.declared.rows.Rows.{Rows}
 use Rattle.era_rows.specs.declared.law.Law.{Ghosts}
 use Rattle.era_rows.specs.declared.views.Knows.{Knows}
 use Rattle.era_one_row.proofs.Finishing.{Ends}
 use Rattle.pls_archive.specs.declared.call.Entry.{Entry}
-use Rattle.pls_archive.specs.declared.point.Point.{Point}
 use Rattle.nd_update.specs.Resting.{IsAtRest}
 use mathlib.Core.Option.{some}
 use lib.ListN.{get_elem?}

@@ -1,5 +1,5 @@
 -- What a pass is between two calls, and while it reads a version.
-use Rattle.std.specs.Prelude.{◌≡◌, ℕ, None, [], length}
+use Rattle.std.specs.Prelude.{◌≡◌, ℕ, None, []}
 use Rattle.era_rows.specs.Passes.{IsPassOf, known_of, marked_of, work_of}
 use Rattle.era_rows.specs.declared.pass.Pass.{Pass}
 use Rattle.era_rows.specs.declared.rows.Rows.{Rows}

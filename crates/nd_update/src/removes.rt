@@ -1,6 +1,6 @@
 //! Taking the points that a value weakly dominates out of the pinned tree.
 ghost use Rattle.std.specs.Prelude.{◌≡◌, ℕ, ℤ, ◌+◌, ◌*◌, ◌%◌, ◌<◌, ◌≤◌, nat_lt, true, List, Some, None, [], ◌∷◌, ◌++◌, IfSome, length, take, drop, if◌then◌else◌};
-ghost use Rattle.era_core.specs.declared.sizes.TheConstants.{ROOT_ROWS};
+ghost use Rattle.era_core.specs.declared.sizes.TheConstants.{KINDS, ROOT_ROWS};
 ghost use Rattle.era_core.specs.Lists.{times, In};
 ghost use Rattle.era_core.specs.Versions.{look_up};
 ghost use Rattle.pls_archive.specs.Lists.{one_if};
@@ -9,7 +9,7 @@ ghost use Rattle.era_rows.specs.Passes.{known_of, marked_of, work_of};
 ghost use Rattle.pls_vectors.specs.Box.{Box};
 ghost use Rattle.pls_vectors.specs.Dominance.{weakly_dominates};
 ghost use Rattle.nd_rows.specs.declared.layout.TheConstants.{FIRST_LINK};
-ghost use Rattle.nd_rows.specs.Layout.{HasWords, IsTreeOf};
+ghost use Rattle.nd_rows.specs.Layout.{HasWords, IsBoxRow, IsLinkRow, IsTreeOf};
 ghost use Rattle.nd_rows.specs.Nodes.{Placed, Nodes, no_nodes, leaf, inner, heads, rows_with, points_of, AreFormed};
 ghost use Rattle.nd_rows.specs.Walk.{HasPlaced};
 ghost use Rattle.nd_update.specs.Building.{Does, Lacks, IsBuilding};
@@ -215,6 +215,26 @@ fn copy_link(
     place + 1
 }
 
+// Ends the copy of a node whose links stand in a fresh row: word 0, and the box, as the row of the node has it.
+fn end_copy(rows: &Rows<NdLaw>, pass: &mut Pass<NdLaw>, row: u32, own: u32, kind: u64, count: u32)
+    requires building { IsBuilding rows.now pass.old }
+    requires row { In row (pinned_copy (known_of pass.old)).rows }
+    requires own { In own (known_of pass.old).core.fresh }
+    requires kind { kind < KINDS }
+    requires boxed { (b : Box) × IsBoxed rows.now.shape (pinned_copy (known_of pass.old)) row b }
+    ensures does { Does rows.now [] [] (own ∷ []) pass.old pass.new }
+    ensures work { work_of pass.new ≡ work_of pass.old }
+    ensures read { 0 < rows.now.shape → WasRead row (known_of pass.new) }
+    ensures links { (links : List ℕ) → HasWords (known_words (known_of pass.old)) own FIRST_LINK links → count ≡ length links → length links ≤ 20
+        → IsLinkRow (known_words (known_of pass.new)) kind own links }
+    ensures boxed { (b : Box) → IsBoxed rows.now.shape (pinned_copy (known_of pass.old)) row b → IsBoxRow rows.now.shape (known_words (known_of pass.new)) own b }
+    ensures only { ReadsOnly (row ∷ []) (known_of pass.old) (known_of pass.new) }
+{
+    write_first(rows, pass, own, kind, count);
+    let range = read_box(rows, pass, row);
+    write_box(rows, pass, own, &range);
+}
+
 // Copies the links to the points that stay, and the box, into a fresh row.
 fn copy_leaf(
     rows: &Rows<NdLaw>,
@@ -238,9 +258,7 @@ fn copy_leaf(
     for k in 0..count {
         place = copy_link(rows, pass, row, k, own, place, hits[k as usize]);
     }
-    write_first(rows, pass, own, LEAF, place);
-    let range = read_box(rows, pass, row);
-    write_box(rows, pass, own, &range);
+    end_copy(rows, pass, row, own, LEAF, place);
 }
 
 // Marks a point, if it goes.
@@ -430,9 +448,7 @@ fn copy_inner(rows: &Rows<NdLaw>, pass: &mut Pass<NdLaw>, row: u32, from: usize,
     for k in from..pass.work_len() {
         place = copy_child(rows, pass, own, place, pass.work(k));
     }
-    write_first(rows, pass, own, INNER, place);
-    let range = read_box(rows, pass, row);
-    write_box(rows, pass, own, &range);
+    end_copy(rows, pass, row, own, INNER, place);
 }
 
 // What is left of an inner node some of whose children, which are on the list from a place on, changed.

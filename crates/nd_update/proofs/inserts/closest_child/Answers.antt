@@ -27,33 +27,28 @@ overflow_cast-link c =
     let few = readable_low r c.args.pass.now c.requires.building _ (child_readable r.shape (known_of c.args.pass.now) c.args.row b kids has c.loop-k.k low) in
     omega (arith, is, few)
 
-pub read_box-requires-clause-row : goal.read_box-requires-clause-row
-read_box-requires-clause-row c =
+pub read_box-requires : goal.read_box-requires
+read_box-requires c =
     let r = c.args.rows.now in
-    let b = c.requires.node.0 in
-    let kids = c.requires.node.1 in
-    let has = c.requires.node.2 in
-    let low : c.loop-k.k < length (heads kids) = omega (arith, c.requires.node.3, c.loop-k-test.true) in
-    let is = c.read_word-link.ensures.word _ (c.loop-k.invariant.does.elsewhere c.args.row (FIRST_LINK + c.loop-k.k) refl ∙ child_word r.shape (known_of c.args.pass.now) c.args.row b kids has c.loop-k.k low) in
-    let both = does_both r [] [] [] [] [] [] c.args.pass.now c.loop-k.pass c.read_word-link.new.pass c.loop-k.invariant.does c.read_word-link.ensures.does in
-    subst (λ x. IsReadable x (known_of c.read_word-link.new.pass)) (sym is)
-    (still_readable r [] [] [] c.args.pass.now c.read_word-link.new.pass both _ (child_readable r.shape (known_of c.args.pass.now) c.args.row b kids has c.loop-k.k low))
-
-pub read_box-requires-clause-boxed : goal.read_box-requires-clause-boxed
-read_box-requires-clause-boxed c =
-    let r = c.args.rows.now in
+    let p = c.args.pass.now in
+    let q = c.read_word-link.new.pass in
     let b = c.requires.node.0 in
     let kids = c.requires.node.1 in
     let has = c.requires.node.2 in
     let k = c.loop-k.k in
     let low : k < length (heads kids) = omega (arith, c.requires.node.3, c.loop-k-test.true) in
-    let is = c.read_word-link.ensures.word _ (c.loop-k.invariant.does.elsewhere c.args.row (FIRST_LINK + k) refl ∙ child_word r.shape (known_of c.args.pass.now) c.args.row b kids has k low) in
-    let both = does_both r [] [] [] [] [] [] c.args.pass.now c.loop-k.pass c.read_word-link.new.pass c.loop-k.invariant.does c.read_word-link.ensures.does in
-    let box = child_box r.shape (known_of c.args.pass.now) c.args.row b kids has k low b in (
-      get_or (boxes_of kids) k b,
-      subst (λ x. IsBoxRow r.shape (known_words (known_of c.read_word-link.new.pass)) x (get_or (boxes_of kids) k b)) (sym is) (box_read r [] [] [] c.args.pass.now c.read_word-link.new.pass both r.shape _ _ refl box.0),
-      box.1.ordered,
-    )
+    let is = c.read_word-link.ensures.word _ (c.loop-k.invariant.does.elsewhere c.args.row (FIRST_LINK + k) refl ∙ child_word r.shape (known_of p) c.args.row b kids has k low) in
+    let both = does_both r [] [] [] [] [] [] p c.loop-k.pass q c.loop-k.invariant.does c.read_word-link.ensures.does in
+    let box = child_box r.shape (known_of p) c.args.row b kids has k low b in
+    record {
+      building = both.building;
+      row = subst (λ x. IsReadable x (known_of q)) (sym is) (still_readable r [] [] [] p q both _ (child_readable r.shape (known_of p) c.args.row b kids has k low));
+      boxed = (
+        get_or (boxes_of kids) k b,
+        subst (λ x. IsBoxRow r.shape (known_words (known_of q)) x (get_or (boxes_of kids) k b)) (sym is) (box_read r [] [] [] p q both r.shape _ _ refl box.0),
+        box.1.ordered,
+      );
+    }
 
 pub loop-k-preserved : goal.loop-k-preserved
 loop-k-preserved c =

@@ -1,4 +1,4 @@
-use Rattle.std.proofs.Common.{◌≡◌, ◌+◌, ◌*◌, ◌<◌, ◌≤◌, Some, [], ◌∷◌, ◌++◌, length, get_or, refl, sym, ap, subst, ◌∙◌, arith}
+use Rattle.std.proofs.Common.{rules, ◌≡◌, ◌+◌, ◌*◌, ◌<◌, ◌≤◌, Some, [], ◌∷◌, ◌++◌, length, get_or, refl, sym, ap, subst, ◌∙◌, arith}
 use Rattle.std.proofs.lemmas.List.{take_all, length-map}
 use Rattle.era_core.specs.declared.sizes.TheConstants.{KINDS}
 use Rattle.era_core.specs.Lists.{In}
@@ -33,31 +33,28 @@ overflow_cast-link c =
     let few = readable_low r c.args.pass.now c.requires.building _ (link_readable r.shape (known_of c.args.pass.now) c.args.row placed has c.loop-k.k low) in
     omega (arith, is, few)
 
-pub read_value-requires-clause-row : goal.read_value-requires-clause-row
-read_value-requires-clause-row c =
+pub read_value-requires : goal.read_value-requires
+read_value-requires c =
     let r = c.args.rows.now in
+    let p = c.args.pass.now in
+    let q = c.read_word-link.new.pass in
+    let k = c.loop-k.k in
     let placed = c.requires.linked.0 in
     let has = c.requires.linked.1 in
-    let low : c.loop-k.k < length placed = omega (arith, c.requires.linked.2, c.loop-k-test.true) in
-    let word = link_word r.shape (known_of c.args.pass.now) c.args.row placed has c.loop-k.k low in
-    let is = c.read_word-link.ensures.word _ (c.loop-k.invariant.does.elsewhere c.args.row (FIRST_LINK + c.loop-k.k) refl ∙ word) in
-    subst (λ x. IsReadable x (known_of c.read_word-link.new.pass)) (sym is)
-    (still_readable r [] [] [] c.loop-k.pass c.read_word-link.new.pass c.read_word-link.ensures.does _
-    (still_readable r [] [] [] c.args.pass.now c.loop-k.pass c.loop-k.invariant.does _ (link_readable r.shape (known_of c.args.pass.now) c.args.row placed has c.loop-k.k low)))
-
-pub read_value-requires-clause-value : goal.read_value-requires-clause-value
-read_value-requires-clause-value c =
-    let r = c.args.rows.now in
-    let placed = c.requires.linked.0 in
-    let has = c.requires.linked.1 in
-    let low : c.loop-k.k < length placed = omega (arith, c.requires.linked.2, c.loop-k-test.true) in
-    let word = link_word r.shape (known_of c.args.pass.now) c.args.row placed has c.loop-k.k low in
-    let is = c.read_word-link.ensures.word _ (c.loop-k.invariant.does.elsewhere c.args.row (FIRST_LINK + c.loop-k.k) refl ∙ word) in
-    let both = does_both r [] [] [] [] [] [] c.args.pass.now c.loop-k.pass c.read_word-link.new.pass c.loop-k.invariant.does c.read_word-link.ensures.does in (
-      get_or (values_with placed) c.loop-k.k [],
-      subst (λ x. HasValue r.shape (known_words (known_of c.read_word-link.new.pass)) x VALUE (get_or (values_with placed) c.loop-k.k [])) (sym is)
-          (value_read r [] [] [] c.args.pass.now c.read_word-link.new.pass both r.shape _ VALUE _ refl (link_value r.shape (known_of c.args.pass.now) c.args.row placed has c.loop-k.k low)),
-    )
+    let low : k < length placed = omega (arith, c.requires.linked.2, c.loop-k-test.true) in
+    let word = link_word r.shape (known_of p) c.args.row placed has k low in
+    let is = c.read_word-link.ensures.word _ (c.loop-k.invariant.does.elsewhere c.args.row (FIRST_LINK + k) refl ∙ word) in
+    let both = does_both r [] [] [] [] [] [] p c.loop-k.pass q c.loop-k.invariant.does c.read_word-link.ensures.does in
+    record {
+      building = both.building;
+      row = subst (λ x. IsReadable x (known_of q)) (sym is) (still_readable r [] [] [] p q both _ (link_readable r.shape (known_of p) c.args.row placed has k low));
+      place = search rules;
+      value = (
+        get_or (values_with placed) k [],
+        subst (λ x. HasValue r.shape (known_words (known_of q)) x VALUE (get_or (values_with placed) k [])) (sym is)
+            (value_read r [] [] [] p q both r.shape _ VALUE _ refl (link_value r.shape (known_of p) c.args.row placed has k low)),
+      );
+    }
 
 pub loop-k-preserved : goal.loop-k-preserved
 loop-k-preserved c =
@@ -115,41 +112,32 @@ loop-g-init c =
       written = ([], refl, does_wider r [] [] [] (row ∷ []) c.args.pass.now c.loop-k.pass (λ x here. absurd (let none : In x [] = here in omega arith)) c.loop-k.invariant.does, tt, λ placed rows values. tt);
     }
 
-pub write_group-requires-clause-group : goal.write_group-requires-clause-group
-write_group-requires-clause-group c =
+pub write_group-requires : goal.write_group-requires
+write_group-requires c =
     let r = c.args.rows.now in
     let placed = c.requires.linked.0 in
     let has = c.requires.linked.1 in
     let long = c.requires.linked.2 in
+    let words = known_words (known_of c.args.pass.now) in
+    let groups = c.split-groups.result in
+    let g = c.loop-g.g in
     let done : c.loop-k.k ≡ 20 = omega (arith, c.loop-k-test.false, c.loop-k.auto.k-end) in
     let values = put_all (values_with placed) c.loop-k.values c.loop-k.k c.args.value.now done (length-map placed (λ (p : Placed). p.point.value) ∙ long) (c.loop-k.invariant.read placed has long).1 in
-    let low : c.loop-g.g < length c.split-groups.result = omega (arith, c.loop-g-test.true, c.count-g-end.ensures) in
-    let few = groups_few r.shape (known_words (known_of c.args.pass.now)) placed has.points long c.args.value.now c.requires.parts c.loop-k.values values in
-    subst (λ ks. (0 < length ks) × (length ks ≤ 20)) (sym c.group.ensures)
-    (every_get (λ ks. (0 < length ks) × (length ks ≤ 20)) c.split-groups.result c.loop-g.g [] low (subst (Every (λ ks. (0 < length ks) × (length ks ≤ 20))) (sym c.split-groups.ensures.value) few))
-
-pub write_group-requires-clause-paid : goal.write_group-requires-clause-paid
-write_group-requires-clause-paid c =
-    let r = c.args.rows.now in
-    let placed = c.requires.linked.0 in
-    let has = c.requires.linked.1 in
-    let long = c.requires.linked.2 in
-    let done : c.loop-k.k ≡ 20 = omega (arith, c.loop-k-test.false, c.loop-k.auto.k-end) in
-    let values = put_all (values_with placed) c.loop-k.values c.loop-k.k c.args.value.now done (length-map placed (λ (p : Placed). p.point.value) ∙ long) (c.loop-k.invariant.read placed has long).1 in
-    let are : length c.split-groups.result ≡ r.shape + 1 =
-    ap length c.split-groups.ensures.value ∙ groups_are r.shape (known_words (known_of c.args.pass.now)) placed has.points long c.args.value.now c.requires.parts c.loop-k.values values in
-    let low : c.loop-g.g < length c.split-groups.result = omega (arith, c.loop-g-test.true, c.count-g-end.ensures) in
-    paid_more (c.loop-g.g + 1) (r.shape + 2) (known_of c.loop-g.pass) (marked_of c.loop-g.pass) (omega (arith, are, low)) c.loop-g.invariant.paid
-
-pub write_group-requires-clause-parts : goal.write_group-requires-clause-parts
-write_group-requires-clause-parts c =
-    let r = c.args.rows.now in
-    let placed = c.requires.linked.0 in
-    let has = c.requires.linked.1 in
-    let long = c.requires.linked.2 in
-    let done : c.loop-k.k ≡ 20 = omega (arith, c.loop-k-test.false, c.loop-k.auto.k-end) in
-    let values = put_all (values_with placed) c.loop-k.values c.loop-k.k c.args.value.now done (length-map placed (λ (p : Placed). p.point.value) ∙ long) (c.loop-k.invariant.read placed has long).1 in
-    λ k e low. every_get (λ v. length v ≡ r.shape) c.loop-k.values k e low (all_long r.shape (known_words (known_of c.args.pass.now)) placed has.points long c.args.value.now c.requires.parts c.loop-k.values values)
+    let low : g < length groups = omega (arith, c.loop-g-test.true, c.count-g-end.ensures) in
+    let few = groups_few r.shape words placed has.points long c.args.value.now c.requires.parts c.loop-k.values values in
+    let are : length groups ≡ r.shape + 1 =
+    ap length c.split-groups.ensures.value ∙ groups_are r.shape words placed has.points long c.args.value.now c.requires.parts c.loop-k.values values in
+    record {
+      building = search rules;
+      pinned = search rules;
+      paid = paid_more (g + 1) (r.shape + 2) (known_of c.loop-g.pass) (marked_of c.loop-g.pass) (omega (arith, are, low)) c.loop-g.invariant.paid;
+      group =
+          subst (λ ks. (0 < length ks) × (length ks ≤ 20)) (sym c.group.ensures)
+          (every_get (λ ks. (0 < length ks) × (length ks ≤ 20)) groups g [] low (subst (Every (λ ks. (0 < length ks) × (length ks ≤ 20))) (sym c.split-groups.ensures.value) few));
+      places = search rules;
+      parts = λ k e here.
+          every_get (λ v. length v ≡ r.shape) c.loop-k.values k e here (all_long r.shape words placed has.points long c.args.value.now c.requires.parts c.loop-k.values values);
+    }
 
 pub returns-in_err-leaf-clause-divided : goal.returns-in_err-leaf-clause-divided
 returns-in_err-leaf-clause-divided c =
