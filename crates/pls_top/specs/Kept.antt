@@ -1,5 +1,4 @@
 -- What the pass that a search leaves is seen as.
-use Rattle.std.specs.Prelude.{ℕ}
 use Rattle.pls_archive.specs.View.{View}
 use Rattle.pls_archive.specs.declared.call.Entry.{Entry}
 use Rattle.era_rows.specs.Known.{Known}

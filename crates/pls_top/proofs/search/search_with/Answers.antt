@@ -1,4 +1,4 @@
-use Rattle.std.proofs.Common.{sym, ap, ◌∙◌, ◌≡◌, ◌+◌, ◌*◌, ◌<◌, map, length, None, Some, arith}
+use Rattle.std.proofs.Common.{sym, ap, ◌∙◌, ◌≡◌, map, length, None, Some, arith}
 use Rattle.nd_shared.proofs.Room.{room_safe}
 use Rattle.pls_search.specs.Neighbours.{point_of}
 use Rattle.pls_top.specs.Kept.{kept_of}
