@@ -9,6 +9,8 @@ use Rattle.pls_archive.specs.declared.call.Call.TheVariants.{Update, Covered, Me
 use Rattle.pls_archive.specs.declared.call.Reply.{Reply}
 use Rattle.pls_archive.specs.declared.call.Reply.TheVariants.{Added, Refused, Yes, No, Points}
 use Rattle.pls_archive.specs.declared.call.Entry.{Entry}
+use Rattle.pls_archive.specs.declared.rule.Rule as rule
+use Rattle.pls_archive.specs.declared.shared.Shared as shared
 use Rattle.pls_archive.specs.Rule.{accepted_by}
 use Rattle.pls_archive.specs.History.{accepted}
 use Rattle.pls_archive.specs.SharedCalls.{Answers}
@@ -16,12 +18,17 @@ use Rattle.pls_archive.specs.View.{View, Joins}
 use Rattle.pls_archive.proofs.KeepingLists.{length-prefix}
 use Rattle.pls_pool.specs.declared.cause.Cause.{Cause}
 use Rattle.pls_pool.specs.declared.cause.Cause.TheVariants.{Spent, Full, Memory}
-use Rattle.pls_problem.specs.declared.instance.Instance.{Instance}
+use Rattle.pls_pool.specs.declared.pool.Pool as pool
 use Rattle.pls_search.specs.declared.end.End.{End}
+use Rattle.pls_search.specs.declared.outcome.NoMemory.{NoMemory}
+use Rattle.pls_search.specs.declared.outcome.Outcome.{Outcome}
+use Rattle.pls_search.specs.declared.task.Task.{Task as Waiting}
+use Rattle.pls_search.specs.declared.worker.Search.{Search}
 use Rattle.pls_search.specs.declared.end.End.TheVariants as ends
 use Rattle.pls_search.specs.Neighbours.{point_of}
 use Rattle.pls_search.specs.Leaving.{graver}
-use Rattle.pls_search.specs.Outcomes.{Finds, Tells}
+use Rattle.pls_search.specs.Crews.{HasFound, GivesBack}
+use Rattle.pls_search.specs.Outcomes.{Tells}
 
 -- an entry accepts at most one point
 accepts-one : (call : Call) (answer : Reply) → length (accepted_by call answer) ≤ 1
@@ -97,14 +104,12 @@ room-told (Err Full) end tells full = refl
 room-told (Err Memory) end tells full = absurd tells
 
 -- so there are more starts and moves than it is safe for
-pub room-found :
-    {E P : Type 0} (reply : List Point → Call → Reply) (i : Instance) (starts : List Solution) (moves started safe : ℕ)
-    (view : P → View) (end_of : P → End) (members : P → List Point) (whole neighbours accepting : P → ℕ) (result : Result P E)
-    → IfOk result (λ o. Finds reply i (map (point_of i) starts) moves started (view o) (end_of o) (members o) (whole o) (neighbours o) (accepting o))
-    → IfOk result (λ o. end_of o ≡ ends.Full → safe ≤ length (view o).observed)
-    → IfOk result (λ o. end_of o ≡ ends.Full → safe < length starts + moves)
-room-found reply i starts moves started safe view end_of members whole neighbours accepting (Ok o) finds room = λ full.
-    let fewer = finds.0.room full in
-    let long = length-map starts (point_of i) in
-    let enough = room full in omega (arith, fewer, long, enough)
-room-found reply i starts moves started safe view end_of members whole neighbours accepting (Err e) finds room = tt
+module _ {A P G Law Pass Seat : Type 0} (a : shared.Ghosts A Law Pass) (r : rule.Ghosts Law) (p : pool.Ghosts P Waiting Seat) {s : Search A P G Law Pass Seat} where
+  pub room-found :
+      (starts : List Solution) (result : Result (Outcome Pass) (NoMemory Pass)) → HasFound a r p s (map (point_of s.instance.now) starts) result → GivesBack a r p s result
+      → IfOk result (λ o. o.end ≡ ends.Full → a.safe s.archive.now < length starts + s.desk.now.moves)
+  room-found starts (Ok o) found back = λ full.
+      let fewer = found.0.room full in
+      let long = length-map starts (point_of s.instance.now) in
+      let enough = back.room full in omega (arith, fewer, long, enough)
+  room-found starts (Err e) found back = tt

@@ -41,9 +41,7 @@ returns-in-Ok g c =
       found = found;
       pass = back.pass;
       full = back.full;
-      room =
-          room-found _ i c.args.starts.now moves _ _ (λ o. g.A.Shared.view o.pass) (λ o. o.end) (λ o. o.front) (λ o. o.explored) (λ o. o.evaluated)
-          (λ o. o.accepted) c.finish.result found back.room;
+      room = room-found g.A.Shared g.A.Law.Rule g.P.Pool c.args.starts.now c.finish.result found back;
       no_memory = back.no_memory;
     }
 
@@ -60,8 +58,6 @@ returns-in-Err g c =
       found = found;
       pass = back.pass;
       full = back.full;
-      room =
-          room-found _ i c.args.starts.now moves _ _ (λ o. g.A.Shared.view o.pass) (λ o. o.end) (λ o. o.front) (λ o. o.explored) (λ o. o.evaluated)
-          (λ o. o.accepted) c.give_up.result found back.room;
+      room = room-found g.A.Shared g.A.Law.Rule g.P.Pool c.args.starts.now c.give_up.result found back;
       no_memory = back.no_memory;
     }
