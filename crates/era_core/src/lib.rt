@@ -15,8 +15,6 @@ mod pass;
 mod play;
 mod reserved;
 mod sizes;
-#[cfg(test)]
-mod tests;
 mod walk;
 mod words;
 

@@ -10,8 +10,6 @@ mod joins;
 mod law;
 mod reads;
 mod replaces;
-#[cfg(test)]
-mod tests;
 
 pub use finds::find_row;
 pub use joins::join;

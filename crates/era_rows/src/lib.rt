@@ -28,8 +28,6 @@ mod rows;
 mod sizes;
 mod starts;
 mod takes;
-#[cfg(test)]
-mod tests;
 mod tidies;
 mod views;
 mod work;

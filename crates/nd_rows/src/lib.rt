@@ -13,8 +13,6 @@ mod question;
 mod questions;
 mod reads;
 mod remembers;
-#[cfg(test)]
-mod tests;
 mod walk;
 
 pub use law::{Adds, NdLaw};

@@ -7,8 +7,6 @@ mod frees;
 mod joins;
 mod refusal;
 mod shared_calls;
-#[cfg(test)]
-mod tests;
 mod told;
 mod tree;
 mod updates;

@@ -10,8 +10,6 @@ mod hint;
 mod leaf;
 mod node;
 mod recent;
-#[cfg(test)]
-mod split_tests;
 mod tree;
 
 pub use children::closest;

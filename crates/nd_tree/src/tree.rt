@@ -3,9 +3,6 @@ ghost use Rattle.std.specs.Prelude.{◌≡◌, ◌≤◌, [], IsTrue};
 ghost use Rattle.pls_archive.specs.Lists.{Every};
 ghost use Rattle.pls_archive.specs.Reply.{some_weakly_dominates};
 
-#[cfg(test)]
-mod tests;
-
 use crate::node::{Node, Spare};
 use crate::recent::Recent;
 use pls_archive::{Nondominated, Point, PointList, Single, Taken};

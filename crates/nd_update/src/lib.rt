@@ -7,8 +7,6 @@ mod laws;
 mod leaves;
 mod removes;
 mod takes;
-#[cfg(test)]
-mod tests;
 mod words;
 
 pub use builds::{BuildRefusal, Built, build};

@@ -8,9 +8,6 @@ ghost use Rattle.pls_vectors.specs.Archive.{dominates, with_submission};
 ghost use Rattle.pls_vectors.specs.Dominance.{weakly_dominates};
 ghost use Rattle.pls_archive.specs.Reply.{point_weakly_dominates, some_weakly_dominates, has_value, removed_by, nondominated, in_order};
 
-#[cfg(test)]
-mod tests;
-
 use crate::rule::Nondominated;
 use crate::single::Single;
 use crate::{Point, PointList, Taken};

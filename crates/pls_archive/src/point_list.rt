@@ -79,32 +79,3 @@ fn lex(a: &Vector, b: &Vector) -> Ordering
     }
     a.len().cmp(&b.len())
 }
-
-#[cfg(test)]
-mod tests {
-    use crate::{Point, PointList};
-    use pls_vectors::{Sol, Vector};
-    use std::alloc::Global;
-    use std::process::Abort;
-
-    fn point(rt: &impl Abort, parts: [i64; 2]) -> Point {
-        Point {
-            value: Vector::new(&parts).expect(rt, "two parts in range"),
-            sol: Sol::bits(3),
-        }
-    }
-
-    fn two_points(rt: &impl Abort, alloc: Global) -> Vec<Point> {
-        vec![in alloc; point(rt, [3, 1]), point(rt, [1, 3])].expect(rt, "memory for two points")
-    }
-
-    #[test]
-    fn keeps_the_points_in_their_order(rt: HostRuntime) {
-        let expected = two_points(&rt, rt.alloc());
-        let list = PointList::from_vec(two_points(&rt, rt.alloc()));
-        assert_eq!(rt; list.as_slice(), expected.as_slice());
-        let points = list.into_vec();
-        assert_eq!(rt; points.as_slice(), expected.as_slice());
-        assert_eq!(rt; points.len(), 2);
-    }
-}

@@ -28,8 +28,3 @@ pub use std_source::StdSource;
 pub use streams::{Failed, Sink, Source};
 pub use words::{Tokens, Word};
 pub use write::{WriteRefusal, write_all};
-
-#[cfg(test)]
-mod adapter_tests;
-#[cfg(test)]
-mod tests;

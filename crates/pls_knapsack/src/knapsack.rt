@@ -5,8 +5,6 @@ mod amounts;
 mod choices;
 mod table;
 mod tally;
-#[cfg(test)]
-mod tests;
 mod walk;
 
 use amounts::{Amounts, WEIGHT_ROWS};

@@ -2,8 +2,6 @@ ghost use Rattle.std.specs.Prelude.{◌≡◌, ◌↔◌, ℕ, ◌+◌, ◌<◌,
 ghost use Rattle.pls_perms.specs.Assignment.{instance_from, IsWithinLimits, cost, total_cost, value, feasible, neighbours};
 
 mod laws;
-#[cfg(test)]
-mod tests;
 
 use crate::pair::Pair;
 use crate::sums::{MOST_OBJECTIVES, Sums};

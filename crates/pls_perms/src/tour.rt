@@ -4,8 +4,6 @@ ghost use Rattle.pls_perms.specs.Tour.{instance_from, IsWithinLimits, edge, edge
 mod laws;
 mod lengths;
 mod places;
-#[cfg(test)]
-mod tests;
 mod walk;
 
 use crate::sums::Sums;

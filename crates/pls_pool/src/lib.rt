@@ -16,16 +16,12 @@ mod desk;
 mod desk_plays;
 mod desk_starts;
 mod desk_steps;
-#[cfg(test)]
-mod desk_tests;
 mod hand;
 mod laws;
 mod one_queue;
 mod one_queue_calls;
 mod one_queue_starts;
 mod pool;
-#[cfg(test)]
-mod pool_tests;
 mod sizes;
 mod spare;
 mod stealing;

@@ -19,8 +19,6 @@ mod rows;
 mod shuffle;
 mod sizes;
 mod start;
-#[cfg(test)]
-mod tests;
 mod writer;
 
 pub use instance::{Instance, Walk};

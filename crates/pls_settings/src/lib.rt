@@ -7,8 +7,6 @@
 mod arg_words;
 mod choices;
 mod line;
-#[cfg(test)]
-mod tests;
 mod values;
 
 pub use arg_words::ArgWords;

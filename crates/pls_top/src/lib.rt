@@ -11,8 +11,6 @@ mod program;
 mod report;
 mod search;
 mod status;
-#[cfg(test)]
-mod tests;
 
 pub use journal::Journal;
 pub use pls_search::{End, Gate, NoGate};

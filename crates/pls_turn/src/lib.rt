@@ -14,8 +14,6 @@ mod seen;
 mod shared_calls;
 mod starts;
 mod terms;
-#[cfg(test)]
-mod tests;
 mod turned;
 mod turns;
 mod updates;

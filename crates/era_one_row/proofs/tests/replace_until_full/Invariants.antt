@@ -1,5 +1,0 @@
-use Rattle.era_one_row.specs.Ready.{IsAtRest}
-use Rattle.era_one_row.proofs.tests.replace_until_full.Given as goal
-
-abbrev pub invariant-loop-done : goal.invariant-loop-done
-invariant-loop-done l = IsAtRest l.rows l.pass

@@ -1,6 +1,0 @@
-use Rattle.std.proofs.Common.{◌≡◌, length}
-use Rattle.era_rows.specs.Passes.{IsPassOf}
-use Rattle.era_one_row.proofs.tests.take_many.Given as goal
-
-abbrev pub invariant-loop : goal.invariant-loop
-invariant-loop l = IsPassOf l.rows l.pass × (length l.seen.items ≡ 64)

@@ -1,6 +1,0 @@
-use Rattle.std.proofs.Common.{◌≡◌, ℕ, Some}
-use Rattle.era_rows.specs.Passes.{known_of, IsPassOf}
-use Rattle.era_rows.proofs.tests.take_all.Given as goal
-
-abbrev pub invariant-loop-taken : goal.invariant-loop-taken
-invariant-loop-taken l = IsPassOf l.rows l.pass × ((n p : ℕ) × ((known_of l.pass).core.pinned ≡ Some (n, p)))

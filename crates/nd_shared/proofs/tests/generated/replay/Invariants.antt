@@ -1,5 +1,0 @@
-use Rattle.std.proofs.Common.{◌≡◌}
-use Rattle.nd_shared.proofs.tests.generated.replay.Given as goal
-
-abbrev pub invariant-loop-call : goal.invariant-loop-call
-invariant-loop-call g l = l.plain.objectives ≡ 3

@@ -1,5 +1,0 @@
-use Rattle.nd_shared.specs.Views.{IsReady}
-use Rattle.nd_shared.proofs.tests.submit_front.Given as goal
-
-abbrev pub invariant-loop-k : goal.invariant-loop-k
-invariant-loop-k l = IsReady l.tree.rows l.pass

@@ -1,5 +1,0 @@
-use Rattle.std.proofs.Common.{◌≡◌}
-use Rattle.nd_tree.proofs.tree.tests.replies_as_plain.Given as goal
-
-abbrev pub invariant-loop-k : goal.invariant-loop-k
-invariant-loop-k g l = (l.tree.objectives ≡ l.objectives) × (l.plain.objectives ≡ l.objectives)

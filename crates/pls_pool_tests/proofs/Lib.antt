@@ -1,0 +1,2 @@
+pub mod Apartness
+pub mod Taken

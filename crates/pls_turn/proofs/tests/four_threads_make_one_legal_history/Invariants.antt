@@ -1,5 +1,0 @@
-use Rattle.std.proofs.Common.{◌≡◌, ◌≤◌}
-use Rattle.pls_turn.proofs.tests.four_threads_make_one_legal_history.Given as goal
-
-abbrev pub invariant-loop-entry : goal.invariant-loop-entry
-invariant-loop-entry g l = (l.plain.objectives ≡ 2) × (l.accepting ≤ l.entry-index)

@@ -1,5 +1,0 @@
-use Rattle.pls_turn.specs.Passes.{IsPassOf}
-use Rattle.pls_turn.proofs.tests.make_calls.Given as goal
-
-abbrev pub invariant-loop : goal.invariant-loop
-invariant-loop g l = IsPassOf l.archive l.pass

@@ -1,5 +1,0 @@
-use Rattle.pls_turn.specs.Passes.{IsPassOf}
-use Rattle.pls_turn.proofs.tests.submit_half.Given as goal
-
-abbrev pub invariant-loop-k : goal.invariant-loop-k
-invariant-loop-k g l = IsPassOf l.archive l.pass
