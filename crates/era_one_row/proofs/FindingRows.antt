@@ -170,7 +170,7 @@ module _ (passes rows : ℕ) (before after : Known) (passes_are : before.passes 
 still_in_call : (n : ℕ) (more : List Look) (begun opened : Known) → HasPinned n begun opened → GoesOn begun opened → InCall begun (having_looked more opened)
 still_in_call n more begun opened pinned on = record {
   looked = prefix_more begun.looks opened.looks more on.looked;
-  in_call = pinned.in_call;
+  in_call = (let first = pinned.first in omega arith);
   found = (let inside = at_within opened.looks opened.since (0, pinned.word) pinned.found in let longer = length-append opened.looks more in omega arith);
 }
 

@@ -1,5 +1,5 @@
 -- What a pass knew it still knows, and its last pin stays.
-use Rattle.std.proofs.Common.{◌≡◌, ℕ, ◌+◌, ◌<◌, Bool, List, [], ◌∷◌, ◌++◌, length, sym, ap, subst, ◌∙◌, arith, append-nil, length-append}
+use Rattle.std.proofs.Common.{◌≡◌, ℕ, ◌+◌, ◌<◌, Bool, List, [], ◌∷◌, ◌++◌, length, sym, ap, subst, ◌∙◌, append-nil, length-append}
 use Rattle.era_core.specs.declared.sizes.TheConstants.{ROOT_ROWS}
 use Rattle.era_core.specs.Words.{root_word}
 use Rattle.era_core.specs.Versions.{Copy}
@@ -44,7 +44,7 @@ pub pin_stays : (n : ℕ) (k l m : Known) → HasPinned n k l → IsPrefix l.loo
 pin_stays n k l m pinned looked same = record {
   word = pinned.word;
   version = pinned.version;
-  in_call = (let there = pinned.in_call in omega arith);
+  first = same ∙ pinned.first;
   found = ap (get_elem? m.looks) same ∙ prefix_at l.looks m.looks l.since (0, pinned.word) looked pinned.found;
 }
 
@@ -59,6 +59,6 @@ module _ {E : Type 0} (caller stamp : E → ℕ) (accepted : ℕ → E → Bool)
       record {
         word = root_word n p;
         version = root_word-version n p low;
-        in_call = omega arith;
+        first = since ∙ long;
         found = ap (get_elem? after.view.looks) since ∙ ap (λ (k : Known). get_elem? k.looks (length noted)) pins.1.view_is ∙ at_end noted (0, root_word n p);
       }

@@ -35,11 +35,12 @@ pub record GoesOn (before after : Known) : Type 0 where
   pub looked : IsPrefix before.looks after.looks
   pub kept : IsPrefix before.core.retired after.core.retired
 
--- the last pin was in this call, and found version n
+-- The last pin found version n, and was the first that the call did: of what the call found it is the second, behind the look that
+-- says what to reserve. So the call pinned once, and read nothing before
 pub record HasPinned (n : ℕ) (before after : Known) : Type 0 where
   pub word : ℕ
   pub version : word / ROOT_ROWS ≡ n
-  pub in_call : length before.looks ≤ after.since
+  pub first : after.since ≡ length before.looks + 1
   pub found : get_elem? after.looks after.since ≡ some (0, word)
 
 module _ {L E : Type 0} {G : Ghosts L E} where

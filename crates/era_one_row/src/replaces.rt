@@ -18,7 +18,7 @@ use crate::law::{OneRow, Stamped};
 use era_core::LAST_VERSION;
 use era_rows::{Nothing, Pass, PublishRefusal, Rows};
 
-/// Pins the current version: its number and its row.
+/// Pins the current version: its number and its row. It pins once, before it reads anything.
 pub fn open(rows: &Rows<OneRow>, pass: &mut Pass<OneRow>) -> (u64, u32)
     requires { IsAtRest rows.now pass.old }
     ensures reads { Reads rows.now result.0 result.1 pass.new }

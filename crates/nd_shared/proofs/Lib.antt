@@ -11,3 +11,4 @@ pub mod Starting
 pub mod Waiting
 pub mod Room
 pub mod Reading
+pub mod Lasting

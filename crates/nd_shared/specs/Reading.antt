@@ -11,8 +11,8 @@ use Rattle.nd_update.specs.Counted.{WasRead}
 use mathlib.Core.Option.{some}
 use lib.ListN.{get_elem?}
 
--- The last version that was pinned between two moments reads as a tree, and of its rows the pass found from then on words of those alone
--- that are given of that tree
+-- The version that a call pinned, before it read anything and but once, reads as a tree, and of its rows the pass found from then on
+-- words of those alone that are given of that tree
 pub record ReadsOf (objectives : ℕ) (rows : Nodes → List ℕ) (before after : Known) : Type 0 where
   pub version : ℕ
   pub pinned : HasPinned version before after

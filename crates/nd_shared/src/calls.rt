@@ -115,7 +115,7 @@ impl Tree {
 
     // Whether the value is covered at the pinned version, the last one that the pass knows. No row is read where a value that the pass
     // remembers covers it.
-    fn is_covered(&self, pass: &mut TreePass, value: &Vector) -> bool
+    pub(crate) fn is_covered(&self, pass: &mut TreePass, value: &Vector) -> bool
         requires tree { (n : ℕ) × HasPinnedTree self.now.rows n pass.old × (length (seen_of pass.old) ≡ n) }
         requires parts { length value.now ≡ self.now.rows.shape }
         requires idle { work_of pass.old ≡ [] }

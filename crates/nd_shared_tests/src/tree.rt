@@ -28,6 +28,9 @@ fn is_full_where_no_row_is_left(rt: HostRuntime) -> Result<(), AllocError> {
     let (tree, mut pass) = start(rt.alloc(), 2, 64)?;
     let (added, refusal) = submit_front(&tree, &mut pass);
     assert_eq!(&rt; refusal, Some(TryRefusal::Full));
+    // a point that a member covers wants no row
+    let answer = tree.try_update(&mut pass, point(0, 50, 1));
+    assert_eq!(&rt; answer, Ok((Taken::Refused, added)));
     let (front, stamp) = tree.snapshot_now(rt.alloc(), &mut pass)?;
     assert_eq!(&rt; stamp, added, "a refusal adds nothing");
     assert_eq!(&rt; front.as_slice().len() as u64, added);

@@ -1,13 +1,17 @@
-use Rattle.std.proofs.Common.{◌≡◌, ◌+◌, ◌*◌, ◌<◌, ◌≤◌, true, [], refl, ap, sym, subst, ◌∙◌, length}
+use Rattle.std.proofs.Common.{◌≡◌, ◌+◌, ◌*◌, ◌<◌, true, false, [], refl, ap, sym, subst, ◌∙◌, length, arith}
 use Rattle.std.proofs.lemmas.Bool.{true≢false}
 use Rattle.std.proofs.lemmas.Result.{IfOk-weaker}
 use Rattle.era_rows.specs.Known.{Known, pinned_copy}
 use Rattle.era_rows.specs.Passes.{known_of, seen_of, memory_of}
 use Rattle.era_one_row.proofs.GoingOn.{pin_stays}
+use Rattle.pls_archive.specs.Archives.{reply_of}
+use Rattle.pls_archive.specs.declared.call.Reply.TheVariants.{Refused}
 use Rattle.nd_rows.specs.Entries.{recalls_value}
 use Rattle.nd_update.specs.Needed.{needed}
 use Rattle.nd_shared.specs.Reading.{ReadsNone, ReadsOf}
+use Rattle.nd_shared.specs.Views.{view_of}
 use Rattle.nd_shared.proofs.Built.{on_err, builds_at, opens_still}
+use Rattle.nd_shared.proofs.Lasting.{answered, brings_in, spent_or_beaten}
 use Rattle.nd_shared.proofs.Recorded.{evidence_short, short_left}
 use Rattle.nd_shared.proofs.Room.{alone_room}
 use Rattle.nd_shared.proofs.Reading.{none_left, reads_built}
@@ -106,7 +110,7 @@ returns-in-Err-Covered-clause-beaten c v is = absurd (not_beaten _ v refl is)
 pub returns-in-Err-Full-clause-full : goal.returns-in-Err-Full-clause-full
 returns-in-Err-Full-clause-full c is = (
   short_left (known_of c.try_build.new.pass) (known_of c.leave.new.pass) c.leave.ensures.left (c.try_build.ensures.full (c.in-Err-Full.is ∙ ap refused_as c.in-Err-Full.field-0-is)),
-  subst (λ n. length (known_of c.args.pass.now).looks ≤ n) (sym (ap (λ (k : Known). k.since) c.leave.ensures.left ∙ c.try_build.ensures.goes.builds.since)) c.open-stamp.ensures.pinned.in_call,
+  (let first = c.open-stamp.ensures.pinned.first in let same = ap (λ (k : Known). k.since) c.leave.ensures.left ∙ c.try_build.ensures.goes.builds.since in omega arith),
 )
 
 pub returns-in-Err-Full-clause-same_full : goal.returns-in-Err-Full-clause-same_full
@@ -151,3 +155,25 @@ returns-in-Err-Full-clause-reads c = needs (goal.at.returns-in-Err-Full-clause-r
 
 pub returns-in-Err-Full-clause-recalled : goal.returns-in-Err-Full-clause-recalled
 returns-in-Err-Full-clause-recalled c = recalls (goal.at.returns-in-Err-Full-clause-recalled c).After-try_build (known_of c.leave.new.pass) (none_left _ (known_of c.try_build.new.pass) (known_of c.leave.new.pass) c.leave.ensures.left)
+
+pub returns-in-Ok-clause-last : goal.returns-in-Ok-clause-last
+returns-in-Ok-clause-last c all =
+    let passes = c.args.self.now.rows.passes in
+    let seen = seen_of c.publish.new.pass in
+    let point = c.args.point.now in
+    let opens = c.open-stamp.ensures.opens in
+    spent_or_beaten c.publish.result (brings_in seen point)
+    (IfOk-weaker c.publish.result _ (λ _. brings_in seen point ≡ false)
+    (λ a gives. answered passes (view_of c.args.pass.now) (view_of c.publish.new.pass) point (reply_of a.0) a.1
+    (gives c.args.pass.now
+    (builds_at c.args.self.now.rows c.open-stamp.result c.args.pass.now c.open-stamp.new.pass c.try_build.new.pass opens c.try_build.ensures.goes c.try_build.ensures.work (c.try_build.ensures.same_full (has_row c.try_build.result _ c.in-Ok.is refl)) point c.in-Ok.built
+    (c.in-Ok.ensures.built c.open-stamp.result opens.opened.tree))))
+    c.publish.ensures.answers)
+    c.publish.ensures.full.0
+
+pub returns-in-Err-Covered-clause-last : goal.returns-in-Err-Covered-clause-last
+returns-in-Err-Covered-clause-last c all brought =
+    let opens = c.open-stamp.ensures.opens in
+    absurd (true≢false (sym brought ∙ answered c.args.self.now.rows.passes (view_of c.args.pass.now) (view_of c.refuse.new.pass) c.args.point.now Refused c.open-stamp.result
+    (c.refuse.ensures.answers c.args.pass.now
+    (opens_still c.args.self.now.rows c.open-stamp.result c.args.pass.now c.open-stamp.new.pass c.try_build.new.pass opens c.try_build.ensures.goes c.try_build.ensures.work (c.try_build.ensures.same_full (has_row c.try_build.result _ (c.in-Err-Covered.is ∙ ap refused_as c.in-Err-Covered.field-0-is) refl)) c.in-Err-Covered.ensures.refused.0 c.in-Err-Covered.ensures.refused.1))))
